@@ -1,0 +1,4 @@
+pub mod Pieces
+pub mod Schemes
+pub mod Edits
+pub mod Checks

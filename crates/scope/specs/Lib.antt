@@ -1,0 +1,15 @@
+pub mod Lists
+pub mod Links
+pub mod Answers
+pub mod Check
+pub mod Edits
+pub mod Passes
+pub mod Point
+pub mod Rules
+pub mod Weights
+pub mod Points
+pub mod Tally
+pub mod Slices
+pub mod Call
+pub mod Schemes
+pub mod EditCalls
