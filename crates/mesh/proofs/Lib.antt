@@ -1,0 +1,4 @@
+pub mod PartnerLaws
+pub mod WordLaws
+pub mod SliceLaws
+pub mod RoundLaws
