@@ -1,0 +1,9 @@
+pub mod Lists
+pub mod Handed
+pub mod Passes
+pub mod Ends
+pub mod Demand
+pub mod Exactly
+pub mod Exact
+pub mod Made
+pub mod Room

@@ -1,0 +1,4 @@
+pub mod Laws
+pub mod Demand
+pub mod Exactly
+pub mod Made

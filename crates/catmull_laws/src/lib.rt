@@ -1,0 +1,1 @@
+// What a Catmull-Clark pass leaves is in proofs/.

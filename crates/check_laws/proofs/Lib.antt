@@ -1,0 +1,4 @@
+pub mod Tells
+pub mod Rounds
+pub mod Tests
+pub mod Theorems

@@ -1,0 +1,1 @@
+// What a Loop pass leaves is in proofs/.

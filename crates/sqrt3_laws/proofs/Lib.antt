@@ -1,0 +1,10 @@
+pub mod Spread
+pub mod RimFan
+pub mod Centre
+pub mod RimOn
+pub mod Turn
+pub mod Match
+pub mod Rims
+pub mod Pass
+pub mod Points
+pub mod Waiting

@@ -1,0 +1,1 @@
+// What a pass of sqrt3 leaves is in proofs/.

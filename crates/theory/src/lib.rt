@@ -1,0 +1,1 @@
+// The theory of consistent halfedge meshes is in specs/ and proofs/.

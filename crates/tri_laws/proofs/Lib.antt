@@ -1,0 +1,4 @@
+pub mod Cutting
+pub mod Corner
+pub mod Triangular
+pub mod Triangulate

@@ -1,0 +1,1 @@
+// What triangulate leaves is in proofs/.
