@@ -1,0 +1,5 @@
+pub mod WalkLaws
+pub mod RoundLaws
+pub mod RuleLaws
+pub mod TourLaws
+pub mod LeastLaws
