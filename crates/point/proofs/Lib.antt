@@ -1,0 +1,3 @@
+pub mod Mirror
+pub mod Through
+pub mod PassThrough

@@ -1,0 +1,3 @@
+pub mod VertexLaws
+pub mod FaceLaws
+pub mod PassLaws

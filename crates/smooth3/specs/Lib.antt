@@ -1,0 +1,3 @@
+pub mod Vertices
+pub mod Faces
+pub mod Passes
