@@ -1,0 +1,4 @@
+pub mod StepLaws
+pub mod FaceLaws
+pub mod PassLaws
+pub mod ReadyLaws

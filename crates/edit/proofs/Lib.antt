@@ -1,0 +1,3 @@
+pub mod StoreLaws
+pub mod SplitLaws
+pub mod PetalLaws

@@ -1,0 +1,69 @@
+// The amounts after passes, found without any pass. They never shrink, so the search stops as soon as a count is over 1,048,576.
+
+use crate::tally::Amounts;
+ghost use mathlib.Core.Path.{_≡_};
+ghost use Prim.Native.Nat.{_≤_, _+_, _*_};
+ghost use Rattle.scope.specs.Tally.{catmullTally};
+ghost use Rattle.call_laws.specs.Laws.{Faced};
+ghost use Rattle.check_laws.specs.Tells.{Tells};
+ghost use Rattle.theory.specs.Sides.{Within};
+ghost use Rattle.room.specs.Amounts.{tallied};
+ghost use Rattle.room.specs.Ahead.{Whole, Told};
+
+// The amounts that are ahead, or that a count is over the limit by then.
+pub enum Ahead {
+    Reached(Amounts),
+    Over,
+}
+
+// No count is over the limit.
+pub fn within(t: Amounts) -> bool
+    ensures { λ r. ⌜ Tells r (Within (tallied t)) ⌝ }
+{
+    if 1048576 < t.v {
+        return false;
+    }
+    if 1048576 < t.e {
+        return false;
+    }
+    if 1048576 < t.f {
+        return false;
+    }
+    true
+}
+
+// Document 01's table: one pass of Catmull-Clark.
+pub fn grow(t: Amounts) -> Amounts
+    requires { ⌜ Within (tallied t) ⌝ }
+    requires { ⌜ Whole (tallied t) ⌝ }
+    ensures { λ r. ⌜ tallied r ≡ catmullTally (tallied t) ⌝ }
+{
+    Amounts {
+        v: t.v + t.e + t.f,
+        e: 2 * t.e + t.s,
+        f: t.s,
+        s: 4 * t.s,
+        b: 2 * t.b,
+    }
+}
+
+// k passes ahead.
+pub fn forecast(k: u32, t: Amounts) -> Ahead
+    requires { ⌜ Whole (tallied t) ⌝ }
+    requires { ⌜ Faced (tallied t) ⌝ }
+    ensures { λ r. ⌜ Told k (tallied t) r ⌝ }
+{
+    let mut left = k;
+    let mut now = t;
+    while left > 0 {
+        if !within(now) {
+            return Ahead::Over;
+        }
+        now = grow(now);
+        left -= 1;
+    }
+    if !within(now) {
+        return Ahead::Over;
+    }
+    Ahead::Reached(now)
+}

@@ -1,0 +1,4 @@
+pub mod LookLaws
+pub mod RoomLaws
+pub mod PassLaws
+pub mod RunLaws

@@ -1,0 +1,4 @@
+pub mod Looks
+pub mod Stores
+pub mod Rooms
+pub mod Passing
