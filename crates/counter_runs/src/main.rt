@@ -1,0 +1,32 @@
+// The counter's line about each of eleven files that its arguments name.
+use libc::STDOUT_FILENO;
+
+fn run(i: usize) {
+    let mut path = io::buffer();
+    let n = os::arg(i, &mut path);
+    let fd = os::open_read(&path[..n]);
+    if fd < 0 {
+        os::fail(&path[..n]);
+        return;
+    }
+    let mut buf = io::large_buffer();
+    let k = io::read_full(fd, &mut buf);
+    libc::close(fd);
+    io::write_all(STDOUT_FILENO, &path[..n]);
+    io::write_all(STDOUT_FILENO, b": ");
+    teller::tell(&buf[..k]);
+}
+
+fn main() {
+    run(1);
+    run(2);
+    run(3);
+    run(4);
+    run(5);
+    run(6);
+    run(7);
+    run(8);
+    run(9);
+    run(10);
+    run(11);
+}

@@ -1,0 +1,4 @@
+pub mod ContentsLaws
+pub mod FillLaws
+pub mod FiniteLaws
+pub mod ReadLaws

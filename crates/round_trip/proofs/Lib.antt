@@ -1,0 +1,5 @@
+pub mod Back
+pub mod Forth
+pub mod Inside
+pub mod Parts
+pub mod Said
