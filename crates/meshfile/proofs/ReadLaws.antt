@@ -2,30 +2,29 @@
 use Prim.Native.Nat.{ℕ, _+_, _*_, _≤_, _<_}
 use mathlib.Core.Path.{_≡_, refl, sym, ap, _∙_}
 use mathlib.Core.Bool.{Bool, true, false, not, _&&_}
-use mathlib.Core.List.{List, [], _∷_, map}
+use mathlib.Core.List.{List, [], map}
 use mathlib.Core.Option.{Option, none, some}
 use native.Mathlib.Omega.{arith}
-use borrow.Author.Tests.{le-leb, lt-leb, not-true, not-false}
+use borrow.Author.Tests.{le-leb, lt-leb}
 use lib.Dec.{leb}
 use lib.ListN.{length, getD, take}
 use lib.Ieee.{Float, nan, binary64, ofBits}
 use lib.Ieee.Scale.{finite}
 use Rattle.scope.specs.declared.records.Counts.{Counts}
 use Rattle.scope.specs.declared.answers.Refusal.{Refusal}
-use Rattle.scope.specs.declared.answers.Refusal.the-variants.{ShortSlice, NotConsistent, BadContents, NotFinite}
+use Rattle.scope.specs.declared.answers.Refusal.the-variants.{ShortSlice, BadContents, NotFinite}
 use Rattle.scope.specs.declared.answers.Checked.{Checked}
 use Rattle.scope.specs.declared.answers.Checked.the-variants.{Sound, Unsound}
-use Rattle.scope.specs.Lists.{if, _orElse_, lay, all, range}
-use Rattle.scope.specs.Check.{fault}
+use Rattle.scope.specs.Lists.{_orElse_, lay, all, range}
 use Rattle.scope.specs.Slices.{Slices, Sizes, sizes, fits, fits-with, used, linksOf, marksOf, float-zero}
-use Rattle.scope.specs.Answers.{refuse-if, refuse}
+use Rattle.scope.specs.Answers.{refuse-if}
 use Rattle.check_laws.proofs.Tells.{never}
 use Rattle.audit.specs.Checked.{answered, checked-links}
 use Rattle.audit.proofs.EntryLaws.{t-fits, answered-sound, answered-unsound}
 use Rattle.mesh.proofs.SliceLaws.{length-lay}
 use Rattle.meshfile.specs.declared.read.Reading.{Reading}
 use Rattle.meshfile.specs.declared.read.Reading.the-variants.{Read, Refused}
-use Rattle.meshfile.specs.Format.{bitsAt, wordAt, fileCounts, fileSlices, filePoints, points-from, all-finite, Finite, right, numbers, words, bytes, outs-from, edges-from, faces-from, marks-from, contents-refusal, link-refusal, read-refusal, reading, Lent, lentAt, file-end, laid, no-slices, read-leaves}
+use Rattle.meshfile.specs.Format.{bitsAt, wordAt, fileCounts, fileSlices, filePoints, all-finite, Finite, right, numbers, words, bytes, outs-from, edges-from, faces-from, marks-from, contents-refusal, link-refusal, read-refusal, reading, Lent, lentAt, file-end, laid, no-slices, read-leaves}
 use Rattle.meshfile.proofs.ContentsLaws.{right-end}
 use Rattle.meshfile.proofs.FillLaws.{take-lay, lay-lay, length-run, at-place, all-is, all-at}
 
@@ -92,9 +91,9 @@ module _ (b : List ℕ) (room : Sizes) (p : ℕ) where
   look-fine e r f l a = rw (r, finite-file b, ← e, f, le-leb _ _ l, a)
 
 -- ---- the check of what was laid
-sizes-laid : (s : Slices) (old : Lent) → sizes (laid s [] old .slices) ≡ sizes (old .slices)
+pub sizes-laid : (s : Slices) (ps : List Float) (old : Lent) → sizes (laid s ps old .slices) ≡ sizes (old .slices)
 unfolding sizes laid
-sizes-laid s old = rw (
+sizes-laid s ps old = rw (
   length-lay 0 (s .outs) (old .slices .outs),
   length-lay 0 (s .edges) (old .slices .edges),
   length-lay 0 (s .faces) (old .slices .faces),
@@ -103,38 +102,28 @@ sizes-laid s old = rw (
   length-lay 0 (s .fmarks) (old .slices .fmarks),
 )
 
-front : (n : ℕ) (f : ℕ → ℕ) (old : List ℕ) → n ≤ length old → take n (lay 0 (map f (range 0 n)) old) ≡ take n (map f (range 0 n))
-front n f old l = let e = length-run f n in take-lay 0 n (map f (range 0 n)) old (omega arith) l
+pub front : {A : Type 0} (z : A) (n : ℕ) (f : ℕ → A) (old : List A) → n ≤ length old → take n (lay z (map f (range 0 n)) old) ≡ take n (map f (range 0 n))
+front z n f old l = let e = length-run f n in take-lay z n (map f (range 0 n)) old (omega arith) l
 
-links-laid : (b : List ℕ) (old : Lent) → fits (fileCounts b) (sizes (old .slices)) ≡ true → linksOf (fileCounts b) (laid (fileSlices b) [] old .slices) ≡ linksOf (fileCounts b) (fileSlices b)
-unfolding linksOf used laid fileSlices
-links-laid b old h =
+-- what is used of the slices is what is used of the file
+pub used-laid : (b : List ℕ) (ps : List Float) (old : Lent) → fits (fileCounts b) (sizes (old .slices)) ≡ true
+    → used (fileCounts b) (laid (fileSlices b) ps old .slices) ≡ used (fileCounts b) (fileSlices b)
+unfolding used laid fileSlices
+used-laid b ps old h =
     let f = t-fits (fileCounts b) (old .slices) .so h in
     let c = fileCounts b in
     rw (
-      front (c .v) (λ i. wordAt b (outs-from c + 4 * i)) (old .slices .outs) (f .vertices .room),
-      front (8 * c .e) (λ i. wordAt b (edges-from c + 4 * i)) (old .slices .edges) (f .halfedges .room),
-      front (c .f) (λ i. wordAt b (faces-from c + 4 * i)) (old .slices .faces) (f .sides .room),
+      front 0 (c .v) (λ i. wordAt b (outs-from c + 4 * i)) (old .slices .outs) (f .vertices .room),
+      front 0 (8 * c .e) (λ i. wordAt b (edges-from c + 4 * i)) (old .slices .edges) (f .halfedges .room),
+      front 0 (c .f) (λ i. wordAt b (faces-from c + 4 * i)) (old .slices .faces) (f .sides .room),
+      front 0 (c .v) (λ i. getD b (marks-from c + i) 0) (old .slices .vmarks) (f .vertices .marks),
+      front 0 (c .e) (λ i. getD b (marks-from c + c .v + i) 0) (old .slices .emarks) (f .halfedges .marks),
+      front 0 (c .f) (λ i. getD b (marks-from c + c .v + c .e + i) 0) (old .slices .fmarks) (f .sides .marks),
     )
 
-marks-laid : (b : List ℕ) (old : Lent) → fits (fileCounts b) (sizes (old .slices)) ≡ true → marksOf (fileCounts b) (laid (fileSlices b) [] old .slices) ≡ marksOf (fileCounts b) (fileSlices b)
-unfolding marksOf used laid fileSlices
-marks-laid b old h =
-    let f = t-fits (fileCounts b) (old .slices) .so h in
-    let c = fileCounts b in
-    rw (
-      front (c .v) (λ i. getD b (marks-from c + i) 0) (old .slices .vmarks) (f .vertices .marks),
-      front (c .e) (λ i. getD b (marks-from c + c .v + i) 0) (old .slices .emarks) (f .halfedges .marks),
-      front (c .f) (λ i. getD b (marks-from c + c .v + c .e + i) 0) (old .slices .fmarks) (f .sides .marks),
-    )
-
-checked-laid : (b : List ℕ) (old : Lent) → fits (fileCounts b) (sizes (old .slices)) ≡ true → checked-links (fileCounts b) (laid (fileSlices b) [] old .slices) ≡ answered (link-refusal b)
-unfolding checked-links link-refusal
-checked-laid b old h = rw (sizes-laid (fileSlices b) old, h, links-laid b old h, marks-laid b old h)
-
-same-slices : (s : Slices) (ps : List Float) (old : Lent) → laid s ps old .slices ≡ laid s [] old .slices
-unfolding laid
-same-slices s ps old = refl
+checked-laid : (b : List ℕ) (ps : List Float) (old : Lent) → fits (fileCounts b) (sizes (old .slices)) ≡ true → checked-links (fileCounts b) (laid (fileSlices b) ps old .slices) ≡ answered (link-refusal b)
+unfolding checked-links link-refusal linksOf marksOf
+checked-laid b ps old h = rw (sizes-laid (fileSlices b) ps old, h, used-laid b ps old h)
 
 wipe-laid : (s : Slices) (ps : List Float) (old : Lent) → laid no-slices [] (laid s ps old) ≡ laid no-slices [] old
 unfolding laid
@@ -150,10 +139,19 @@ wipe-laid s ps old = rw (
 
 -- what is in the slices, and what the check said of it
 module _ (b : List ℕ) (old new : Lent) {c : Counts} (e : c ≡ fileCounts b) (h : fits c (sizes (old .slices)) ≡ true) (q : new ≡ laid (fileSlices b) (filePoints b) old) where
-  said : checked-links c (new .slices) ≡ answered (link-refusal b)
-  said =
-      let g : fits (fileCounts b) (sizes (old .slices)) ≡ true = rw (← e) h in
-      rw (e, q, same-slices (fileSlices b) (filePoints b) old) (checked-laid b old g)
+  held : fits (fileCounts b) (sizes (old .slices)) ≡ true
+  held = rw (← e) h
+
+  pub said : checked-links c (new .slices) ≡ answered (link-refusal b)
+  said = rw (e, q) (checked-laid b (filePoints b) old held)
+
+  pub links-read : linksOf c (new .slices) ≡ linksOf (fileCounts b) (fileSlices b)
+  unfolding linksOf
+  links-read = rw (e, q, used-laid b (filePoints b) old held)
+
+  pub marks-read : marksOf c (new .slices) ≡ marksOf (fileCounts b) (fileSlices b)
+  unfolding marksOf
+  marks-read = rw (e, q, used-laid b (filePoints b) old held)
 
   pub load-sound : {r : Checked} → r ≡ checked-links c (new .slices) → r ≡ Sound → (Read c ≡ reading (link-refusal b) (fileCounts b)) × (new ≡ read-leaves (link-refusal b) b old)
   unfolding read-leaves

@@ -24,9 +24,11 @@ use Rattle.audit.proofs.EntryLaws.{fitting, t-fits}
 use Rattle.meshfile.specs.Format.{all-finite, outs-from, edges-from, faces-from, marks-from, file-end, wordsBytes, pointsBytes, marksBytes, contentsOf, fileOf, write-refusal, write-leaves}
 use Rattle.meshfile.proofs.FillLaws.{all-is, all-at}
 use Rattle.writer.specs.declared.write.Writing.the-variants.{Written, Refused}
-use Rattle.writer.specs.Puts.{overFrom, Finites, Held, Room}
+use Rattle.text.specs.Text.{overFrom}
+use Rattle.writer.specs.Puts.{Finites, Held, Room}
 use Rattle.writer.specs.Writes.{writing}
-use Rattle.writer.proofs.PutLaws.{next-to, length-words, length-numbers, length-marks}
+use Rattle.text.proofs.PutLaws.{next-to}
+use Rattle.writer.proofs.PutLaws.{length-words, length-numbers, length-marks}
 
 -- ---- finite numbers
 pub finite-front : (ps : List Float) (n : ℕ) → n ≤ length ps → all n (λ i. finite (getD ps i nan)) ≡ all-finite (take n ps)
@@ -74,6 +76,10 @@ pub is-written : (o : Option Refusal) (k : ℕ) {n : ℕ} → writing o k ≡ Wr
 is-written none k e = refl
 is-written (some r) k e = let z : _≡_ {A = ℕ} 0 1 = cc in absurd (omega arith)
 
+pub written-all : (o : Option Refusal) (k : ℕ) {n : ℕ} → writing o k ≡ Written n → n ≡ k
+written-all none k e = cc
+written-all (some r) k e = let z : _≡_ {A = ℕ} 0 1 = cc in absurd (omega arith)
+
 pub is-refused : (o : Option Refusal) (k : ℕ) {r : Refusal} → writing o k ≡ Refused r → o ≡ some r
 is-refused none k e = let z : _≡_ {A = ℕ} 0 1 = cc in absurd (omega arith)
 is-refused (some q) k e = cc
@@ -95,7 +101,7 @@ pub fits-both : (c : Counts) (s : Slices) (n : ℕ) → fits-with c (sizes s) n 
 unfolding fits-with
 fits-both c s n e = let p = both (fits c (sizes s)) (leb (3 * c .v) n) e in (p .0, leb-true (3 * c .v) n (p .1))
 
-tests : (c : Counts) (s : Slices) (ps : List Float) (room : ℕ) → write-refusal c s ps room ≡ none
+pub tests : (c : Counts) (s : Slices) (ps : List Float) (room : ℕ) → write-refusal c s ps room ≡ none
     → (fits-with c (sizes s) (length ps) ≡ true) × (all-finite (take (3 * c .v) ps) ≡ true) × (leb (file-end c) room ≡ true)
 unfolding write-refusal pointsOf
 tests c s ps room e = all-three (fits-with c (sizes s) (length ps)) (all-finite (take (3 * c .v) ps)) (leb (file-end c) room) ShortSlice NotFinite NoRoom e

@@ -1,5 +1,5 @@
--- Bytes put into a slice from a place on. Assumes nothing.
-use Prim.Native.Nat.{ℕ, zero, suc, _+_, _*_, _/_, _%_, _<_, _≤_}
+-- The bytes of numbers and marks, and what the writer asks. Assumes nothing.
+use Prim.Native.Nat.{ℕ, _*_, _/_, _%_, _<_, _≤_}
 use mathlib.Core.Path.{_≡_}
 use mathlib.Core.Bool.{true}
 use mathlib.Core.List.{List, [], _∷_, _++_}
@@ -8,14 +8,8 @@ use lib.ListN.{getD, length}
 use lib.Ieee.{Float, nan, binary64, toBits}
 use lib.Ieee.Scale.{finite}
 use Rattle.scope.specs.declared.records.Counts.{Counts}
-use Rattle.scope.specs.Lists.{if, over}
+use Rattle.scope.specs.Lists.{if}
 use Rattle.meshfile.specs.Format.{wordBytes, file-end}
-
--- old with l over its places from there on
-unfoldable pub overFrom : ℕ → List ℕ → List ℕ → List ℕ
-overFrom zero l old = over l old
-overFrom (suc at) l [] = []
-overFrom (suc at) l (y ∷ old) = y ∷ overFrom at l old
 
 -- the bytes of one number, and of one mark
 unfoldable pub numberBytes : Float → List ℕ

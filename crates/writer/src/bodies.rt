@@ -8,7 +8,8 @@ ghost use mathlib.Core.Path.{_≡_};
 ghost use Prim.Native.Nat.{_≤_, _+_, _*_};
 ghost use lib.ListN.{length, take};
 ghost use Rattle.meshfile.specs.Format.{wordsBytes, pointsBytes, marksBytes, contentsOf};
-ghost use Rattle.writer.specs.Puts.{overFrom, Finites, Held};
+ghost use Rattle.text.specs.Text.{overFrom};
+ghost use Rattle.writer.specs.Puts.{Finites, Held};
 
 // The first n words of l, from there on.
 pub fn put_words(file: &mut [u8], at: usize, l: &[u32], n: usize)

@@ -7,7 +7,8 @@ ghost use lib.ListN.{length};
 ghost use lib.Ieee.{binary64, toBits};
 ghost use lib.Ieee.Scale.{finite};
 ghost use Rattle.meshfile.specs.Format.{wordBytes};
-ghost use Rattle.writer.specs.Puts.{overFrom, numberBytes, markBytes};
+ghost use Rattle.text.specs.Text.{overFrom};
+ghost use Rattle.writer.specs.Puts.{numberBytes, markBytes};
 
 pub fn put_word(file: &mut [u8], at: usize, n: u32)
     requires { ⌜ at + 3 < length (now file) ⌝ }

@@ -14,7 +14,8 @@ ghost use lib.Ieee.Scale.{finite};
 ghost use Rattle.scope.specs.Lists.{over};
 ghost use Rattle.audit.specs.Checked.{slicesAt};
 ghost use Rattle.meshfile.specs.Format.{wordsBytes, marksBytes, all-finite, outs-from, edges-from, faces-from, marks-from, file-end, fileOf, write-refusal, write-leaves};
-ghost use Rattle.writer.specs.Puts.{overFrom, Held, Room};
+ghost use Rattle.text.specs.Text.{overFrom};
+ghost use Rattle.writer.specs.Puts.{Held, Room};
 ghost use Rattle.writer.specs.Writes.{writing};
 
 // What a writer answers: how many bytes are written, or why none is.

@@ -2,7 +2,8 @@ use native.Mathlib.Omega.{arith}
 use borrow.Author.Needs.{needs}
 use Prim.Native.Nat.{_-_}
 use Rattle.writer.specs.Puts.{markBytes}
-use Rattle.writer.proofs.PutLaws.{Puts, puts-none, puts-on, wide-mark, marks-done, one-each}
+use Rattle.text.proofs.PutLaws.{Puts, puts-none, puts-on, one-each}
+use Rattle.writer.proofs.PutLaws.{wide-mark, marks-done}
 use Rattle.writer.proofs.bodies.put_marks.Statement.{statement}
 use Rattle.writer.proofs.bodies.put_marks.Tie as tie
 

@@ -4,7 +4,8 @@ use native.Mathlib.Omega.{arith}
 use borrow.Author.Needs.{needs}
 use Prim.Native.Nat.{_-_}
 use Rattle.writer.specs.Puts.{numberBytes}
-use Rattle.writer.proofs.PutLaws.{Puts, puts-none, puts-on, wide-number, numbers-done}
+use Rattle.text.proofs.PutLaws.{Puts, puts-none, puts-on}
+use Rattle.writer.proofs.PutLaws.{wide-number, numbers-done}
 use Rattle.writer.proofs.bodies.put_numbers.Statement.{statement}
 use Rattle.writer.proofs.bodies.put_numbers.Tie as tie
 

@@ -3,7 +3,8 @@ use native.Mathlib.Omega.{arith}
 use borrow.Author.Needs.{needs}
 use Prim.Native.Nat.{_-_}
 use Rattle.meshfile.specs.Format.{wordBytes}
-use Rattle.writer.proofs.PutLaws.{Puts, puts-none, puts-on, wide-word, words-done}
+use Rattle.text.proofs.PutLaws.{Puts, puts-none, puts-on}
+use Rattle.writer.proofs.PutLaws.{wide-word, words-done}
 use Rattle.writer.proofs.bodies.put_words.Statement.{statement}
 use Rattle.writer.proofs.bodies.put_words.Tie as tie
 

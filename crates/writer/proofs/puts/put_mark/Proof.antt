@@ -1,6 +1,6 @@
 use borrow.Author.Tests.{eq-eqb, ne-eqb}
 use Rattle.writer.specs.Puts.{markBytes}
-use Rattle.writer.proofs.PutLaws.{store-one}
+use Rattle.text.proofs.PutLaws.{store-one}
 use borrow.Author.Needs.{needs}
 use Rattle.writer.proofs.puts.put_mark.Statement.{statement}
 use Rattle.writer.proofs.puts.put_mark.Tie as tie
