@@ -1,4 +1,4 @@
--- A mesh written and read: the file is right, and it holds that mesh in every link, mark and number. Assumes nothing.
+-- A mesh written and read: the file is right, and it holds that mesh in every link and number, and every mark as 0 or 1. Assumes nothing.
 use Prim.Native.Nat.{ℕ, zero, suc, _+_, _-_, _*_, _≤_, _<_}
 use mathlib.Core.Path.{_≡_, refl, sym, ap, _∙_}
 use mathlib.Core.Bool.{Bool, true, false}
@@ -17,8 +17,8 @@ use Rattle.audit.proofs.EntryLaws.{t-fits}
 use Rattle.meshfile.specs.Format.{wordAt, kindAt, startAt, countAt, fileCounts, fileSlices, filePoints, row-right, rows-right, marks-right, right, points-from, outs-from, edges-from, faces-from, marks-from, file-end, wordsBytes, pointsBytes, marksBytes, contentsOf, fileOf, words, bytes, numbers}
 use Rattle.writer.proofs.PutLaws.{length-words, length-numbers, length-marks}
 use Rattle.writer.proofs.WriteLaws.{fits-both}
-use Rattle.round_trip.proofs.Inside.{Inside, inside-first, inside-last, keep, small-none, small-on, word-read, words-read, marks-read, numbers-read, marks-low}
-use Rattle.round_trip.specs.Trip.{Small, Fair, Given-back}
+use Rattle.round_trip.proofs.Inside.{Inside, inside-first, inside-last, keep, small-none, small-on, word-read, words-read, marks-read, numbers-read, marks-low, marks-kept}
+use Rattle.round_trip.specs.Trip.{Small, Marks01, Fair, filed, Given-back}
 
 -- where the parts of a file stand
 record Placed (b : List ℕ) (c : Counts) (ps : List Float) (os es fs vm em fm : List ℕ) : Type 0 where
@@ -207,7 +207,8 @@ file-is c s ps = refl
 
 given-back : (b : List ℕ) (c : Counts) (s : Slices) (ps : List Float) → Fair c s ps
     → Placed b c (pointsOf c ps) (used c s .outs) (used c s .edges) (used c s .faces) (used c s .vmarks) (used c s .emarks) (used c s .fmarks)
-    → Given-back b c (used c s) (pointsOf c ps)
+    → Given-back b c (filed c s) (pointsOf c ps)
+unfolding filed
 given-back b c s ps h p =
     let k = t-fits c s .so (fits-both c s (length ps) (h .sized) .0) in
     let n = counted c s ps (h .sized) in
@@ -217,19 +218,24 @@ given-back b c s ps h p =
     record {
       right = right-of b c w (p .whole) (marks-of b c (u .vmarks) (u .emarks) (u .fmarks) (n .vmarks) (n .emarks) (n .fmarks) (p .vmarks) (p .emarks) (p .fmarks));
       counts = e;
-      slices = slices-of b c u e
+      slices = slices-of b c (filed c s) e
           (words-read b (outs-from c) (c .v) (u .outs) (p .outs) (h .outs) (n .outs))
           (words-read b (edges-from c) (8 * c .e) (u .edges) (p .edges) (h .edges) (n .edges))
           (words-read b (faces-from c) (c .f) (u .faces) (p .faces) (h .faces) (n .faces))
-          (marks-read b (marks-from c) (c .v) (u .vmarks) (p .vmarks) (h .vmarks) (n .vmarks))
-          (marks-read b (marks-from c + c .v) (c .e) (u .emarks) (p .emarks) (h .emarks) (n .emarks))
-          (marks-read b (marks-from c + c .v + c .e) (c .f) (u .fmarks) (p .fmarks) (h .fmarks) (n .fmarks));
+          (marks-read b (marks-from c) (c .v) (u .vmarks) (p .vmarks) (n .vmarks))
+          (marks-read b (marks-from c + c .v) (c .e) (u .emarks) (p .emarks) (n .emarks))
+          (marks-read b (marks-from c + c .v + c .e) (c .f) (u .fmarks) (p .fmarks) (n .fmarks));
       points = points-of b c (pointsOf c ps) e (numbers-read b 64 (3 * c .v) (pointsOf c ps) (p .points) (h .points) (n .points));
     }
 
 -- reading what was written gives the mesh back
-pub read-again : (c : Counts) (s : Slices) (ps : List Float) → Fair c s ps → Given-back (fileOf c s ps) c (used c s) (pointsOf c ps)
+pub read-again : (c : Counts) (s : Slices) (ps : List Float) → Fair c s ps → Given-back (fileOf c s ps) c (filed c s) (pointsOf c ps)
 read-again c s ps h =
     rw (file-is c s ps)
     (given-back (file c (pointsOf c ps) (used c s .outs) (used c s .edges) (used c s .faces) (used c s .vmarks) (used c s .emarks) (used c s .fmarks)) c s ps h
     (placed c (pointsOf c ps) (used c s .outs) (used c s .edges) (used c s .faces) (used c s .vmarks) (used c s .emarks) (used c s .fmarks) (counted c s ps (h .sized))))
+
+-- and where its marks are 0 or 1, every one of them as it was
+pub filed-used : (c : Counts) (s : Slices) → Marks01 (used c s .vmarks) → Marks01 (used c s .emarks) → Marks01 (used c s .fmarks) → filed c s ≡ used c s
+unfolding filed
+filed-used c s v e f = rw (marks-kept (used c s .vmarks) v, marks-kept (used c s .emarks) e, marks-kept (used c s .fmarks) f)

@@ -122,12 +122,16 @@ mark-in [] i q m = absurd (omega arith)
 mark-in (x ∷ l) zero q m = mark-kept x m
 mark-in (x ∷ l) (suc i) q m = mark-in l i (omega arith) m
 
-pub marks-read : (b : List ℕ) (from n : ℕ) (l : List ℕ) → Inside b from (marksBytes l) → Marks01 l → length l ≡ n → bytes b from n ≡ l
-marks-read b from n l h m e =
+-- marks 0 or 1 are written as they are
+pub marks-kept : (l : List ℕ) → Marks01 l → marksBytes l ≡ l
+marks-kept l m = let w = length-marks l in ext-getD 0 (marksBytes l) l w (λ i q. mark-in l i (omega arith) (m .at i (omega arith)))
+
+pub marks-read : (b : List ℕ) (from n : ℕ) (l : List ℕ) → Inside b from (marksBytes l) → length l ≡ n → bytes b from n ≡ marksBytes l
+marks-read b from n l h e =
     let f : ℕ → ℕ = λ i. getD b (from + i) 0 in
     let k : length (bytes b from n) ≡ n = length-run f n in
     let w = length-marks l in
-    ext-getD 0 (bytes b from n) l (k ∙ sym e) (λ i q. at-place f n i 0 (omega arith) ∙ h .at i (omega arith) ∙ mark-in l i (omega arith) (m .at i (omega arith)))
+    ext-getD 0 (bytes b from n) (marksBytes l) (k ∙ sym e ∙ sym w) (λ i q. at-place f n i 0 (omega arith) ∙ h .at i (omega arith))
 
 -- ---- numbers
 doubles-tail : {x : Float} {l : List Float} → Doubles (x ∷ l) → Doubles l

@@ -1,5 +1,10 @@
 pub mod Back
+pub mod CubeFile
+pub mod FaultMarks
+pub mod FileBytes
 pub mod Forth
 pub mod Inside
 pub mod Parts
+pub mod ReadCall
 pub mod Said
+pub mod Written

@@ -14,7 +14,7 @@ use Rattle.scope.specs.Lists.{range}
 use Rattle.meshfile.specs.Format.{wordAt, bitsAt, wordBytes}
 use Rattle.meshfile.proofs.FiniteLaws.{finite-no-nan}
 use Rattle.writer.specs.Puts.{numberBytes, markBytes}
-use Rattle.writer.proofs.PutLaws.{flat}
+use Rattle.text.proofs.PutLaws.{flat}
 use Rattle.round_trip.specs.Bytes.{Bytes}
 
 -- ---- one word

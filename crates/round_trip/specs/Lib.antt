@@ -1,2 +1,4 @@
 pub mod Bytes
+pub mod Calls
+pub mod Cube
 pub mod Trip

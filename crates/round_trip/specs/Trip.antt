@@ -8,7 +8,7 @@ use lib.ListN.{length, getD}
 use lib.Ieee.{Float, binary64, fits, nan}
 use Rattle.scope.specs.declared.records.Counts.{Counts}
 use Rattle.scope.specs.Slices.{Slices, sizes, fits-with, used, pointsOf}
-use Rattle.meshfile.specs.Format.{right, fileCounts, fileSlices, filePoints}
+use Rattle.meshfile.specs.Format.{right, fileCounts, fileSlices, filePoints, marksBytes}
 
 -- words
 pub record Small (l : List ℕ) : Type 0 where
@@ -22,16 +22,26 @@ pub record Marks01 (l : List ℕ) : Type 0 where
 pub record Doubles (l : List Float) : Type 0 where
   pub at : (i : ℕ) → i < length l → T (fits binary64 (getD l i nan))
 
--- a mesh whose slices are long enough, and hold words, marks 0 or 1, and values of an f64
+-- a mesh whose slices are long enough, and hold words and values of an f64; its marks are any bytes
 pub record Fair (c : Counts) (s : Slices) (ps : List Float) : Type 0 where
   pub sized : fits-with c (sizes s) (length ps) ≡ true
   pub outs : Small (used c s .outs)
   pub edges : Small (used c s .edges)
   pub faces : Small (used c s .faces)
-  pub vmarks : Marks01 (used c s .vmarks)
-  pub emarks : Marks01 (used c s .emarks)
-  pub fmarks : Marks01 (used c s .fmarks)
   pub points : Doubles (pointsOf c ps)
+
+-- §5: the mesh as a file holds it: what is used of each slice, and a mark that is not 0 as 1
+unfoldable pub filed : Counts → Slices → Slices
+filed c s =
+    let u = used c s in
+    record {
+      outs = u .outs;
+      edges = u .edges;
+      faces = u .faces;
+      vmarks = marksBytes (u .vmarks);
+      emarks = marksBytes (u .emarks);
+      fmarks = marksBytes (u .fmarks);
+    }
 
 -- what reading gives
 pub record Given-back (b : List ℕ) (c : Counts) (s : Slices) (ps : List Float) : Type 0 where

@@ -1,1 +1,1 @@
-// The round trip of the mesh file: what was read, written again, is the file. There is no code here, only theorems.
+// The round trips of the mesh file: what was read, written again, is the file; what was written, read again, is the mesh. There is no code here, only theorems.
