@@ -1,12 +1,8 @@
 // Reads one mesh file of at most 65,536 bytes from standard input, and writes one line: its counts, or the refusal.
 fn main() {
-    let mut buf = io::large_buffer();
-    let n = io::read_full(0, &mut buf);
-    let mut more = [0u8; 1];
-    let got = libc::read(0, &mut more);
-    if 0 < got {
-        teller::refuse(2);
-        return;
-    }
-    teller::tell(&buf[..n]);
+    let mut file = teller::whole::new_file();
+    let n = io::read_full(0, &mut file);
+    let mut line = [0u8; 167];
+    let k = teller::whole::say(&file[..n], &mut line);
+    io::write_all(1, &line[..k]);
 }

@@ -9,12 +9,14 @@ fn run(i: usize) {
         os::fail(&path[..n]);
         return;
     }
-    let mut buf = io::large_buffer();
-    let k = io::read_full(fd, &mut buf);
+    let mut file = teller::whole::new_file();
+    let size = io::read_full(fd, &mut file);
     libc::close(fd);
+    let mut line = [0u8; 167];
+    let k = teller::whole::say(&file[..size], &mut line);
     io::write_all(STDOUT_FILENO, &path[..n]);
     io::write_all(STDOUT_FILENO, b": ");
-    teller::tell(&buf[..k]);
+    io::write_all(STDOUT_FILENO, &line[..k]);
 }
 
 fn main() {

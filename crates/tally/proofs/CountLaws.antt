@@ -4,14 +4,13 @@ use mathlib.Core.Path.{_≡_, refl, sym, ap, _∙_}
 use mathlib.Core.Bool.{Bool, true, false}
 use mathlib.Core.List.{List, [], _∷_}
 use native.Mathlib.Omega.{arith}
-use borrow.Author.Tests.{lt-ltb, le-ltb, ltb-true}
-use lib.Dec.{eqb, ltb}
-use lib.ListN.{getD, length}
-use Rattle.scope.specs.Lists.{if, sum, number-of, round, all}
+use borrow.Author.Tests.{lt-ltb, le-ltb}
+use lib.Dec.{eqb}
+use lib.ListN.{length}
+use Rattle.scope.specs.Lists.{if, sum, number-of, round}
 use Rattle.mesh.specs.Words.{nextAt}
 use Rattle.mesh.specs.Rounds.{Walk, loopAt}
 use Rattle.mesh.proofs.RoundLaws.{walk-next}
-use Rattle.meshfile.proofs.FillLaws.{all-at}
 use Rattle.tally.specs.Count.{below, Linked}
 
 -- a loop that adds g, before its turn i
@@ -92,14 +91,3 @@ below-here h x l b = rw (lt-ltb x h b)
 pub below-past : (h x : ℕ) (l : List ℕ) → h ≤ x → below h (x ∷ l) ≡ below h l
 unfolding below
 below-past h x l b = rw (le-ltb x h b)
-
--- ---- links that may be walked
-pub linked-by : (es fs : List ℕ) (n : ℕ) → n ≤ 1048576 → length fs ≤ 1048576 → 8 * n ≤ length es
-    → all (2 * n) (λ h. ltb (nextAt es h) (2 * n)) ≡ true → all (length fs) (λ f. ltb (getD fs f 0) (2 * n)) ≡ true → Linked es fs n
-linked-by es fs n a b r s t = record {
-  few = a;
-  few-faces = b;
-  room = r;
-  step = λ h l. ltb-true (nextAt es h) (2 * n) (all-at (λ h. ltb (nextAt es h) (2 * n)) (2 * n) s h l);
-  from = λ f l. ltb-true (getD fs f 0) (2 * n) (all-at (λ f. ltb (getD fs f 0) (2 * n)) (length fs) t f l);
-}

@@ -1,6 +1,5 @@
 // What the counter counts (document 01, section 5).
 
 pub mod count;
-pub mod linked;
 pub mod loops;
 pub mod numbers;

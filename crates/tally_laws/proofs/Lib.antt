@@ -1,0 +1,4 @@
+pub mod Chosen
+pub mod FileRims
+pub mod Lowest
+pub mod RimLaws
