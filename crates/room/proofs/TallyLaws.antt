@@ -1,20 +1,17 @@
 -- The amounts that the sweep finds are scope's tally. Assumes nothing.
 use Prim.Native.Nat.{ℕ, zero, suc, _+_, _-_, _*_, _≤_}
-use mathlib.Core.Path.{_≡_, refl, sym, ap, _∙_}
+use mathlib.Core.Path.{_≡_, refl}
 use mathlib.Core.Bool.{Bool, true, false, not}
-use mathlib.Core.List.{List}
 use native.Mathlib.Omega.{arith}
 use lib.ListN.{length}
-use Rattle.scope.specs.Lists.{if, number-of, sum}
-use Rattle.scope.specs.Links.{Links, start, loop, rim, rimEdge}
-use Rattle.scope.specs.Tally.{Tally, tallyOf, countsOf}
+use Rattle.scope.specs.Lists.{number-of, sum}
+use Rattle.scope.specs.Links.{Links, start, loop, rimEdge}
+use Rattle.scope.specs.Tally.{tallyOf, countsOf}
 use Rattle.theory.specs.Of.{Good}
 use Rattle.theory.specs.Count.{bit}
 use Rattle.theory.proofs.Corners.{corners, rims-corners}
 use Rattle.mesh.specs.Rounds.{rimAt}
-use Rattle.mesh.proofs.WordLaws.{loads}
 use Rattle.room.specs.Amounts.{amountsAt, tallied}
-use Rattle.room.specs.Ahead.{Whole}
 
 bit-few : (b : Bool) → bit b ≤ 1
 bit-few true = omega arith

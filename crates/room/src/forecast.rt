@@ -1,18 +1,20 @@
 // The amounts after passes, found without any pass. They never shrink, so the search stops as soon as a count is over 1,048,576.
 
+use crate::kind::Kind;
+use crate::kind::turn;
 use crate::tally::Amounts;
 ghost use mathlib.Core.Path.{_≡_};
-ghost use Prim.Native.Nat.{_≤_, _+_, _*_};
 ghost use Rattle.scope.specs.Tally.{catmullTally};
 ghost use Rattle.call_laws.specs.Laws.{Faced};
 ghost use Rattle.check_laws.specs.Tells.{Tells};
 ghost use Rattle.theory.specs.Sides.{Within};
+ghost use Rattle.room.specs.Kinds.{schemeOf};
 ghost use Rattle.room.specs.Amounts.{tallied};
 ghost use Rattle.room.specs.Ahead.{Whole, Told};
 
-// The amounts that are ahead, or that a count is over the limit by then.
+// The amounts that are ahead and the flag there, or that a count is over the limit by then.
 pub enum Ahead {
-    Reached(Amounts),
+    Reached(Amounts, bool),
     Over,
 }
 
@@ -32,8 +34,17 @@ pub fn within(t: Amounts) -> bool
     true
 }
 
-// Document 01's table: one pass of Catmull-Clark.
-pub fn grow(t: Amounts) -> Amounts
+// The amounts that the first pass starts from.
+pub fn ready(kind: Kind, t: Amounts) -> Amounts
+    ensures { λ r. ⌜ tallied r ≡ schemeOf kind .ready (tallied t) ⌝ }
+{
+    match kind {
+        Kind::Catmull => t,
+    }
+}
+
+// Document 01's table: Catmull-Clark.
+fn catmull(t: Amounts) -> Amounts
     requires { ⌜ Within (tallied t) ⌝ }
     requires { ⌜ Whole (tallied t) ⌝ }
     ensures { λ r. ⌜ tallied r ≡ catmullTally (tallied t) ⌝ }
@@ -47,23 +58,36 @@ pub fn grow(t: Amounts) -> Amounts
     }
 }
 
-// k passes ahead.
-pub fn forecast(k: u32, t: Amounts) -> Ahead
+// Document 01's table: one pass.
+pub fn grow(kind: Kind, flag: bool, t: Amounts) -> Amounts
+    requires { ⌜ Within (tallied t) ⌝ }
+    requires { ⌜ Whole (tallied t) ⌝ }
+    ensures { λ r. ⌜ tallied r ≡ schemeOf kind .grow flag (tallied t) ⌝ }
+{
+    match kind {
+        Kind::Catmull => catmull(t),
+    }
+}
+
+// k passes ahead, the first with this flag.
+pub fn forecast(kind: Kind, k: u32, flag: bool, t: Amounts) -> Ahead
     requires { ⌜ Whole (tallied t) ⌝ }
     requires { ⌜ Faced (tallied t) ⌝ }
-    ensures { λ r. ⌜ Told k (tallied t) r ⌝ }
+    ensures { λ r. ⌜ Told (schemeOf kind) k flag (tallied t) r ⌝ }
 {
     let mut left = k;
     let mut now = t;
+    let mut next = flag;
     while left > 0 {
         if !within(now) {
             return Ahead::Over;
         }
-        now = grow(now);
+        now = grow(kind, next, now);
+        next = turn(kind, next);
         left -= 1;
     }
     if !within(now) {
         return Ahead::Over;
     }
-    Ahead::Reached(now)
+    Ahead::Reached(now, next)
 }

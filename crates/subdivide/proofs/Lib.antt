@@ -2,3 +2,4 @@ pub mod LookLaws
 pub mod RoomLaws
 pub mod PassLaws
 pub mod RunLaws
+pub mod StoreLaws

@@ -1,24 +1,22 @@
 -- The looks before anything is written, step by step. Assumes nothing.
-use Prim.Native.Nat.{ℕ, zero, suc, _≤_, _<_}
-use mathlib.Core.Path.{_≡_, refl, sym, ap, _∙_}
+use Prim.Native.Nat.{ℕ, zero, suc, _<_}
+use mathlib.Core.Path.{_≡_, refl, sym, _∙_}
 use mathlib.Core.Bool.{Bool, true, false, not}
 use mathlib.Core.List.{List}
 use mathlib.Core.Option.{Option, none, some}
 use native.Mathlib.Omega.{arith}
-use lib.Dec.{ltb}
 use borrow.Author.Tests.{lt-ltb, le-ltb}
 use mathlib.Core.Logic.{_≢_}
-use lib.ListN.{length, take}
+use lib.ListN.{take}
 use Rattle.scope.specs.declared.records.Counts.{Counts}
 use Rattle.scope.specs.declared.answers.Refusal.{Refusal}
 use Rattle.scope.specs.declared.answers.Fault.{Fault}
-use Rattle.scope.specs.declared.answers.Place.{Place}
 use Rattle.scope.specs.declared.answers.Place.the-variants.{AtVertex, AtEdge, AtFace}
-use Rattle.scope.specs.declared.answers.Refusal.the-variants.{TooManyPasses, ShortSlice, NotConsistent, MarkedDeleted, NoRoom, NoWeight}
+use Rattle.scope.specs.declared.answers.Refusal.the-variants.{TooManyPasses, ShortSlice, NotConsistent, MarkedDeleted}
 use Rattle.scope.specs.declared.answers.Checked.{Checked}
 use Rattle.scope.specs.declared.answers.Checked.the-variants.{Sound, Unsound}
 use Rattle.scope.specs.Lists.{_orElse_}
-use Rattle.scope.specs.Check.{fault, marked, set-mark, spot}
+use Rattle.scope.specs.Check.{fault, marked, set-mark}
 use Rattle.scope.specs.Slices.{Slices, sizes, fits-with, linksOf, marksOf, used}
 use Rattle.scope.specs.Answers.{refuse-if, refuse}
 use Rattle.slices.specs.Marks.{found, foundMark}

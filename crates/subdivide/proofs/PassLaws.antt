@@ -1,4 +1,4 @@
--- A good mesh in slices is as its points ask it to be; and points that are laid over points. Assumes nothing.
+-- A pass of Catmull-Clark: a good mesh in slices is as its points ask it to be, and points are laid over points. Assumes nothing.
 use Prim.Native.Nat.{ℕ, zero, suc, _+_, _*_, _≤_, _<_}
 use mathlib.Core.Path.{_≡_, refl, sym, ap, _∙_, subst}
 use mathlib.Core.Logic.{_≢_, _⊎_, inl, inr}
@@ -12,7 +12,7 @@ use lib.Seq.{length-take-le}
 use lib.Ieee.{Float}
 use Rattle.scope.specs.declared.records.Counts.{Counts}
 use Rattle.scope.specs.Lists.{lay, over}
-use Rattle.scope.specs.Links.{Links, NONE, partner, face, out, tail, turn}
+use Rattle.scope.specs.Links.{Links, NONE, face, out, tail}
 use Rattle.scope.specs.Points.{catmullPoints}
 use Rattle.scope.specs.Passes.{catmullPass}
 use Rattle.scope.specs.Tally.{Tally, tallyOf, countsOf, catmullTally}
@@ -20,16 +20,19 @@ use Rattle.scope.specs.Slices.{float-zero}
 use Rattle.scope.specs.Schemes.{catmull}
 use Rattle.theory.specs.Of.{mesh, Good}
 use Rattle.theory.specs.Sides.{Within}
-use Rattle.theory.specs.Mesh.{Core, Shape}
+use Rattle.theory.specs.Mesh.{Core}
 use Rattle.theory.proofs.Facts.{turn-in, turn-tail}
 use Rattle.theory.proofs.Loops.{good-shape}
-use Rattle.mesh.specs.Words.{faceAt, headAt, linkAt, turnAt}
+use Rattle.mesh.specs.Words.{faceAt, linkAt, turnAt}
 use Rattle.mesh.specs.Rounds.{rimAt, rimVertexAt, after}
 use Rattle.smooth.specs.Sums.{Halves, Starts, Outs, Inside}
 use Rattle.catmull_laws.proofs.Pass.{catmull-tally}
 use Rattle.scheme_laws.proofs.Catmull.{points-long}
-use Rattle.catmull.specs.Pass.{given}
-use Rattle.subdivide.specs.Passing.{PassReady}
+use Rattle.room.specs.declared.kind.Kind.{Kind}
+use Rattle.room.specs.declared.kind.Kind.the-variants.{Catmull}
+use Rattle.room.proofs.KindLaws.{laws-of}
+use Rattle.catmull.specs.Pass.{given, Ready}
+use Rattle.subdivide.specs.Passing.{PrepareReady, PassReady, Goes}
 
 neither : (a b : Bool) → (a || b) ≡ false → (a ≡ false) × (b ≡ false)
 neither true b e = absurd (true≢false e)
@@ -101,11 +104,11 @@ pub tally-v : (m : Links) → m .nv ≡ tallyOf m .v
 unfolding tallyOf
 tally-v m = refl
 
-pub tally-sum : (m : Links) → catmullTally (tallyOf m) .v ≡ m .nv + m .ne + m .nf
+tally-sum : (m : Links) → catmullTally (tallyOf m) .v ≡ m .nv + m .ne + m .nf
 unfolding catmullTally tallyOf
 tally-sum m = refl
 
-pub grown-v : (m : Links) → Good m → Within (catmullTally (tallyOf m)) → catmullPass m .nv ≡ catmullTally (tallyOf m) .v
+grown-v : (m : Links) → Good m → Within (catmullTally (tallyOf m)) → catmullPass m .nv ≡ catmullTally (tallyOf m) .v
 grown-v m g w = tally-v (catmullPass m) ∙ ap (λ (t : Tally). t .v) (catmull-tally m g w)
 
 -- ---- points over points
@@ -127,45 +130,92 @@ over-lay {A} z (x ∷ l) [] (y ∷ old) b = ap {B = List A} (λ r. x ∷ r) (ove
 over-lay {A} z (x ∷ l) (w ∷ k) (y ∷ old) b = ap {B = List A} (λ r. x ∷ r) (over-lay z l k old (omega arith))
 
 -- what the work slice holds, copied over the points
-pub points-over : {A : Type 0} (z : A) (new ps work points : List A) (n : ℕ) → length new ≡ n → n ≤ length work → length ps ≤ n → points ≡ lay z ps points →
+points-over : {A : Type 0} (z : A) (new ps work points : List A) (n : ℕ) → length new ≡ n → n ≤ length work → length ps ≤ n → points ≡ lay z ps points →
     over (take n (over new work)) points ≡ lay z new points
 points-over z new ps work points n e b l h =
     ap (λ k. over k points) (take-over new work n e b) ∙ ap (over new) h ∙ over-lay z new ps points (omega arith)
 
--- what a pass of these slices has to do with
-module _ (c : Counts) (outs edges faces : List ℕ) (points work : List Float) (r : PassReady c outs edges faces points work) where
+-- ---- the kind of scheme, while there is one
+pub alone : (kind : Kind) → kind ≡ Catmull
+alone Catmull = refl
+
+-- ---- before the first pass: Catmull-Clark prepares nothing
+pub prepares : {c : Counts} {outs edges faces : List ℕ} → PrepareReady Catmull c outs edges faces →
+    (outs ≡ lay 0 (catmull .prepare (given c outs edges faces) .outs) outs)
+    × ((edges ≡ lay 0 (catmull .prepare (given c outs edges faces) .edges) edges)
+    × ((faces ≡ lay 0 (catmull .prepare (given c outs edges faces) .faces) faces)
+    × (c ≡ countsOf (catmull .prepare (given c outs edges faces)))))
+unfolding catmull countsOf
+prepares r = (r .outs-hold, (r .edges-hold, (r .faces-hold, refl)))
+
+-- ---- what a pass of these slices has to do with
+module _ {update : Bool} {c : Counts} {outs edges faces : List ℕ} {points work : List Float} (r : PassReady Catmull update c outs edges faces points work) where
+  pub good : Good (given c outs edges faces)
+  good = laws-of Catmull .at-good update (given c outs edges faces) (r .at)
+
+  within : Within (catmullTally (tallyOf (given c outs edges faces)))
+  unfolding catmull
+  within = r .room .within
+
+  pub links-ready : Ready c outs edges faces
+  unfolding catmull
+  links-ready = record {
+    good = good;
+    within = within;
+    room = r .room .links-room;
+    outs-hold = r .held .outs-hold;
+    edges-hold = r .held .edges-hold;
+    faces-hold = r .held .faces-hold;
+  }
+
   -- the counts d after it
-  module _ (d : Counts) (e : d ≡ countsOf (catmullPass (given c outs edges faces))) where
-    pub after-v : d .v ≡ c .v + c .e + c .f
+  module _ {d : Counts} (e : d ≡ countsOf (catmullPass (given c outs edges faces))) where
+    after-v : d .v ≡ c .v + c .e + c .f
     unfolding countsOf
     after-v =
         let m = given c outs edges faces in
-        ap (λ (x : Counts). x .v) e ∙ grown-v m (r .links-ready .good) (r .links-ready .within) ∙ tally-sum m
+        ap (λ (x : Counts). x .v) e ∙ grown-v m good within ∙ tally-sum m
 
     pub after-few : d .v ≤ 1048576
     after-few =
         let a = after-v in
         let b = tally-sum (given c outs edges faces) in
-        let w = r .links-ready .within .v-within in
+        let w = within .v-within in
         omega arith
 
     pub after-work : 3 * d .v ≤ length work
     after-work = let a = after-v in let b = r .work-room in omega arith
 
     pub after-points : 3 * d .v ≤ length points
+    unfolding catmull
     after-points =
         let a = after-v in
         let b = tally-sum (given c outs edges faces) in
-        let p = r .points-room in
+        let p : 3 * catmullTally (tallyOf (given c outs edges faces)) .v ≤ length points = r .room .points-room in
         omega arith
 
-    pub points-moved : (update : Bool) → over (take (3 * d .v) (over (catmullPoints update (given c outs edges faces) (take (3 * c .v) points)) work)) points
+    points-moved : over (take (3 * d .v) (over (catmullPoints update (given c outs edges faces) (take (3 * c .v) points)) work)) points
         ≡ lay float-zero (catmullPoints update (given c outs edges faces) (take (3 * c .v) points)) points
-    points-moved update =
+    points-moved =
         let m = given c outs edges faces in
         let ps = take (3 * c .v) points in
         let a = after-v in
         let b = tally-sum m in
         let l = points-long update m ps in
         let k = length-take-le (3 * c .v) points (r .points-in) in
-        points-over float-zero (catmullPoints update m ps) ps work points (3 * d .v) (omega arith) after-work (omega arith) (r .points-hold)
+        points-over float-zero (catmullPoints update m ps) ps work points (3 * d .v) (omega arith) after-work (omega arith) (r .held .points-hold)
+
+    -- the new points from the work slice, once the links are there
+    pub goes : {outs′ edges′ faces′ : List ℕ} {points′ work′ : List Float} →
+        outs′ ≡ lay 0 (catmullPass (given c outs edges faces) .outs) outs →
+        edges′ ≡ lay 0 (catmullPass (given c outs edges faces) .edges) edges →
+        faces′ ≡ lay 0 (catmullPass (given c outs edges faces) .faces) faces →
+        work′ ≡ over (catmullPoints update (given c outs edges faces) (take (3 * c .v) points)) work →
+        points′ ≡ over (take (3 * d .v) work′) points →
+        Goes catmull update (given c outs edges faces) (take (3 * c .v) points) d outs edges faces points outs′ edges′ faces′ points′
+    unfolding catmull
+    goes os es fs w ps = record {
+      lies = record { outs-are = os; edges-are = es; faces-are = fs; points-are = ps ∙ ap (λ (l : List Float). over (take (3 * d .v) l) points) w ∙ points-moved };
+      counts-are = e;
+      weights-there = refl;
+    }

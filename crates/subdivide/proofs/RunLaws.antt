@@ -1,80 +1,34 @@
--- The state of the slices between two passes. Assumes nothing.
+-- The state of the slices between two passes, over any scheme that is code. Assumes nothing.
 use Prim.Native.Nat.{ℕ, zero, suc, _+_, _-_, _*_, _≤_, _<_}
 use mathlib.Core.Path.{_≡_, refl, sym, ap, _∙_, subst, subst⁻¹}
 use mathlib.Core.Bool.{Bool}
 use mathlib.Core.List.{List}
+use mathlib.Core.Option.{none, some}
 use native.Mathlib.Omega.{arith}
 use lib.ListN.{length, take}
-use lib.Seq.{length-take-le, take-all}
+use lib.Seq.{length-take-le}
 use lib.Ieee.{Float}
 use Rattle.scope.specs.declared.records.Counts.{Counts}
 use Rattle.scope.specs.Lists.{lay}
 use Rattle.scope.specs.Links.{Links}
-use Rattle.scope.specs.Points.{catmullPoints}
-use Rattle.scope.specs.Passes.{catmullPass}
-use Rattle.scope.specs.Tally.{Tally, tallyOf, countsOf, catmullTally}
+use Rattle.scope.specs.Tally.{Tally, tallyOf, countsOf}
 use Rattle.scope.specs.Slices.{float-zero}
-use Rattle.scope.specs.Call.{links, points, tally}
-use Rattle.scope.specs.Schemes.{catmull}
-use Rattle.theory.specs.Of.{Good}
-use Rattle.theory.specs.Sides.{Within}
+use Rattle.scope.specs.Call.{Scheme, links, points, tally, turned, heavy}
 use Rattle.mesh.proofs.SliceLaws.{length-lay}
-use Rattle.call_laws.specs.Laws.{Faced, Step}
-use Rattle.call_laws.proofs.Lists.{read-back}
+use Rattle.call_laws.specs.Laws.{Faced, Step, Laws}
 use Rattle.call_laws.proofs.Passes.{within-step, tally-step, good-faced}
-use Rattle.catmull_laws.proofs.Pass.{catmull-good, catmull-tally}
-use Rattle.scheme_laws.proofs.Catmull.{catmull-laws, points-long}
-use Rattle.catmull.specs.Pass.{given, Room, Ready}
-use Rattle.catmull.proofs.ReadyLaws.{lay-lay, given-laid, ready-laid}
-use Rattle.subdivide.specs.Passing.{PassReady, Roomy, RunReady, linksAfter, pointsAfter, tallyAfter}
-use Rattle.subdivide.proofs.PassLaws.{grown-v, tally-v, tally-sum}
-
--- the mesh x with the points qs is in the slices, and left more passes of it come to m and ps after k
-pub record Running (k : ℕ) (update : Bool) (m : Links) (ps : List Float) (outs₀ edges₀ faces₀ : List ℕ) (points₀ work₀ : List Float)
-    (left : ℕ) (d : Counts) (outs edges faces : List ℕ) (ps₁ work : List Float) : Type 0 where
-  pub x : Links
-  pub qs : List Float
-  pub counts-are : d ≡ countsOf x
-  pub outs-are : outs ≡ lay 0 (x .outs) outs₀
-  pub edges-are : edges ≡ lay 0 (x .edges) edges₀
-  pub faces-are : faces ≡ lay 0 (x .faces) faces₀
-  pub points-are : ps₁ ≡ lay float-zero qs points₀
-  pub points-long : length qs ≡ 3 * x .nv
-  pub work-long : length work ≡ length work₀
-  pub good : Good x
-  pub room : Roomy (tallyAfter left update (tallyOf x)) outs₀ edges₀ faces₀ points₀ work₀
-  pub links-left : linksAfter left update x ≡ linksAfter k update m
-  pub points-left : pointsAfter left update x qs ≡ pointsAfter k update m ps
-
-counts-again : (c : Counts) (outs edges faces : List ℕ) → c ≡ countsOf (given c outs edges faces)
-unfolding countsOf
-counts-again c outs edges faces = refl
-
-pub run-start : (k : ℕ) (update : Bool) (c : Counts) (outs edges faces : List ℕ) (ps work : List Float) → RunReady k update c outs edges faces ps work → 3 * c .v ≤ length ps →
-    Running k update (given c outs edges faces) (take (3 * c .v) ps) outs edges faces ps work k c outs edges faces ps work
-run-start k update c outs edges faces ps work r b = record {
-  x = given c outs edges faces;
-  qs = take (3 * c .v) ps;
-  counts-are = counts-again c outs edges faces;
-  outs-are = r .outs-hold;
-  edges-are = r .edges-hold;
-  faces-are = r .faces-hold;
-  points-are = r .points-hold;
-  points-long = length-take-le (3 * c .v) ps b;
-  work-long = refl;
-  good = r .good;
-  room = r .room;
-  links-left = refl;
-  points-left = refl;
-}
+use Rattle.room.specs.declared.kind.Kind.{Kind}
+use Rattle.room.specs.Kinds.{schemeOf, sidesOf}
+use Rattle.room.proofs.KindLaws.{laws-of}
+use Rattle.catmull.specs.Pass.{given}
+use Rattle.catmull.proofs.ReadyLaws.{take-lay, lay-lay, held-lay, given-laid}
+use Rattle.subdivide.specs.Rooms.{needed}
+use Rattle.subdivide.specs.Passing.{Held, Roomy, Lies, PassReady, Goes, RunReady, Comes}
+use Rattle.subdivide.proofs.PassLaws.{tally-v}
 
 -- ---- room for what comes later is room for what comes before
-faced-grown : (t : Tally) → Faced t → Faced (catmullTally t)
-unfolding catmullTally
-faced-grown t h = omega arith
-
-roomy-less : (s t : Tally) (outs edges faces : List ℕ) (ps work : List Float) → Step s t → Roomy t outs edges faces ps work → Roomy s outs edges faces ps work
-roomy-less s t outs edges faces ps work st r =
+roomy-less : {s t : Tally} {outs edges faces : List ℕ} {ps : List Float} → Step s t → Roomy t outs edges faces ps → Roomy s outs edges faces ps
+roomy-less {s} {t} st r =
     let a = st .v-grows in
     let b = st .e-grows in
     let c = st .f-grows in
@@ -82,174 +36,256 @@ roomy-less s t outs edges faces ps work st r =
     let e = r .links-room .for-e in
     let f = r .links-room .for-f in
     let p = r .points-room in
-    let q = r .work-room in
     record {
       within = within-step s t st (r .within);
       links-room = record { for-v = omega arith; for-e = omega arith; for-f = omega arith };
       points-room = omega arith;
-      work-room = omega arith;
     }
 
-tally-on : (left : ℕ) (update : Bool) (t : Tally) → 0 < left → tallyAfter left update t ≡ tallyAfter (left - 1) update (catmullTally t)
-unfolding tally catmull
-tally-on zero update t l = absurd (omega arith)
-tally-on (suc n) update t l = let e : suc n - 1 ≡ n = omega arith in rw e
-
-links-on : (left : ℕ) (update : Bool) (x : Links) → 0 < left → linksAfter left update x ≡ linksAfter (left - 1) update (catmullPass x)
-unfolding links catmull
-links-on zero update x l = absurd (omega arith)
-links-on (suc n) update x l = let e : suc n - 1 ≡ n = omega arith in rw e
-
-points-on : (left : ℕ) (update : Bool) (x : Links) (qs : List Float) → 0 < left →
-    pointsAfter left update x qs ≡ pointsAfter (left - 1) update (catmullPass x) (catmullPoints update x qs)
-unfolding points catmull
-points-on zero update x qs l = absurd (omega arith)
-points-on (suc n) update x qs l = let e : suc n - 1 ≡ n = omega arith in rw e
-
-pub points-first : (k : ℕ) (update : Bool) (c : Counts) (outs edges faces : List ℕ) (ps work : List Float) → RunReady k update c outs edges faces ps work → 3 * c .v ≤ length ps
-points-first k update c outs edges faces ps work r =
-    let m = given c outs edges faces in
-    let s = tally-step catmull 4 catmull-laws k update (tallyOf m) (good-faced m (r .good)) in
+-- a pass needs no more than it and those after it
+needed-first : (S : Scheme) (sides : ℕ) → Laws S sides → (n : ℕ) (next : Bool) (t : Tally) → Faced t → 6 * (t .v + t .e + t .f) ≤ needed S (suc n) next t
+unfolding needed
+needed-first S sides w n next t f =
+    let s = tally-step S sides w n next t f in
     let a = s .v-grows in
-    let p = r .room .points-room in
-    let b = tally-v m in
+    let b = s .e-grows in
+    let c = s .f-grows in
     omega arith
 
-take-lay : (qs old : List Float) (n : ℕ) → length qs ≡ n → n ≤ length old → take n (lay float-zero qs old) ≡ qs
-take-lay qs old n e b =
-    ap (λ (l : List Float). take n (lay float-zero l old)) (sym (take-all n qs (omega arith))) ∙ read-back float-zero qs old n e b
+needed-after : (S : Scheme) (n : ℕ) (next : Bool) (t : Tally) → needed S n (S .turn next) (S .grow next t) ≤ needed S (suc n) next t
+unfolding needed tally
+needed-after S zero next t = omega arith
+needed-after S (suc n) next t = omega arith
 
-module _ {k : ℕ} {update : Bool} {m : Links} {ps : List Float} {outs₀ edges₀ faces₀ : List ℕ} {points₀ work₀ : List Float}
-    {left : ℕ} {d : Counts} {outs edges faces : List ℕ} {ps₁ work : List Float}
-    (i : Running k update m ps outs₀ edges₀ faces₀ points₀ work₀ left d outs edges faces ps₁ work) (l : 0 < left) where
-  later : Roomy (tallyAfter (left - 1) update (catmullTally (tallyOf (i .x)))) outs₀ edges₀ faces₀ points₀ work₀
-  later = subst (λ (t : Tally). Roomy t outs₀ edges₀ faces₀ points₀ work₀) (tally-on left update (tallyOf (i .x)) l) (i .room)
+-- ---- what is left: the next passes of x with the points qs, after those that are done, come to k passes of m with the points ps
+pub record Remain (S : Scheme) (k : ℕ) (flag : Bool) (m : Links) (ps : List Float) (outs₀ edges₀ faces₀ : List ℕ) (points₀ work₀ : List Float)
+    (left done : ℕ) (next : Bool) (x : Links) (qs : List Float) : Type 0 where
+  pub links-left : links S left next x ≡ links S k flag m
+  pub points-left : points S left next x qs ≡ points S k flag m ps
+  pub flag-left : turned S left next ≡ turned S k flag
+  pub heavy-left : heavy S left (suc done) next x ≡ heavy S k 1 flag m
+  pub room : Roomy (tally S left next (tallyOf x)) outs₀ edges₀ faces₀ points₀
+  pub work-room : needed S left next (tallyOf x) ≤ length work₀
 
-  grown : Roomy (catmullTally (tallyOf (i .x))) outs₀ edges₀ faces₀ points₀ work₀
-  grown =
-      let t = catmullTally (tallyOf (i .x)) in
-      roomy-less t (tallyAfter (left - 1) update t) outs₀ edges₀ faces₀ points₀ work₀
-      (tally-step catmull 4 catmull-laws (left - 1) update t (faced-grown (tallyOf (i .x)) (good-faced (i .x) (i .good)))) later
+module _ {S : Scheme} {k : ℕ} {flag : Bool} {m : Links} {ps : List Float} {outs₀ edges₀ faces₀ : List ℕ} {points₀ work₀ : List Float}
+    {n done : ℕ} {next : Bool} {x : Links} {qs : List Float} (r : Remain S k flag m ps outs₀ edges₀ faces₀ points₀ work₀ (suc n) done next x qs) where
+  one-done : S .weightless next x ≡ none → tallyOf (S .pass next x) ≡ S .grow next (tallyOf x) →
+      Remain S k flag m ps outs₀ edges₀ faces₀ points₀ work₀ n (suc done) (S .turn next) (S .pass next x) (S .smooth next x qs)
+  unfolding links points turned heavy tally
+  one-done e t = record {
+    links-left = r .links-left;
+    points-left = r .points-left;
+    flag-left = r .flag-left;
+    heavy-left = rw e at (r .heavy-left);
+    room = rw t (r .room);
+    work-room = rw t (let a = needed-after S n next (tallyOf x) in let b = r .work-room in omega arith);
+  }
+
+  stops : {v : ℕ} → S .weightless next x ≡ some v → heavy S k 1 flag m ≡ some (suc done, v)
+  unfolding heavy
+  stops e = sym (rw e at (r .heavy-left))
+
+-- ---- the mesh x with the points qs is in the slices, with these counts
+pub record Running (kind : Kind) (k : ℕ) (flag : Bool) (m : Links) (ps : List Float) (outs₀ edges₀ faces₀ : List ℕ) (points₀ work₀ : List Float)
+    (done : ℕ) (next : Bool) (d : Counts) (outs edges faces : List ℕ) (ps₁ work : List Float) : Type 0 where
+  pub left : ℕ
+  pub x : Links
+  pub qs : List Float
+  pub left-are : left + done ≡ k
+  pub remain : Remain (schemeOf kind) k flag m ps outs₀ edges₀ faces₀ points₀ work₀ left done next x qs
+  pub at : laws-of kind .At next x
+  pub counts-are : d ≡ countsOf x
+  pub lies : Lies x qs outs₀ edges₀ faces₀ points₀ outs edges faces ps₁
+  pub points-long : length qs ≡ 3 * x .nv
+  pub work-long : length work ≡ length work₀
+
+-- room for the mesh that passes start from
+first-room : (kind : Kind) (k : ℕ) (flag : Bool) (m : Links) {outs edges faces : List ℕ} {ps : List Float} → laws-of kind .At flag m →
+    Roomy (tally (schemeOf kind) k flag (tallyOf m)) outs edges faces ps → Roomy (tallyOf m) outs edges faces ps
+first-room kind k flag m a r = roomy-less (tally-step (schemeOf kind) (sidesOf kind) (laws-of kind) k flag (tallyOf m) (good-faced m (laws-of kind .at-good flag m a))) r
+
+tally-all : (m : Links) → tallyOf m .v + tallyOf m .e + tallyOf m .f ≡ m .nv + m .ne + m .nf
+unfolding tallyOf
+tally-all m = refl
+
+pub run-start : {kind : Kind} {k : ℕ} {flag : Bool} {c : Counts} {outs edges faces : List ℕ} {ps work : List Float} → RunReady kind k flag c outs edges faces ps work →
+    Running kind k flag (given c outs edges faces) (take (3 * c .v) ps) outs edges faces ps work 0 flag c outs edges faces ps work
+unfolding countsOf
+run-start {kind} {k} {flag} {c} {outs} {edges} {faces} {ps} {work} r =
+    let m = given c outs edges faces in
+    let p = first-room kind k flag m (r .at) (r .room) .points-room in
+    let v = tally-v m in
+    record {
+      left = k;
+      x = m;
+      qs = take (3 * c .v) ps;
+      left-are = omega arith;
+      remain = record { links-left = refl; points-left = refl; flag-left = refl; heavy-left = refl; room = r .room; work-room = r .work-room };
+      at = r .at;
+      counts-are = refl;
+      lies = record { outs-are = r .held .outs-hold; edges-are = r .held .edges-hold; faces-are = r .held .faces-hold; points-are = r .held .points-hold };
+      points-long = length-take-le (3 * c .v) ps (omega arith);
+      work-long = refl;
+    }
+
+-- ---- slices that something was laid into
+laid-length : {A : Type 0} (z : A) (l old : List A) {s : List A} → s ≡ lay z l old → length s ≡ length old
+laid-length z l old e = ap length e ∙ length-lay z l old
+
+laid-on : {A : Type 0} (z : A) (new was old : List A) {s t : List A} → s ≡ lay z was old → t ≡ lay z new s → t ≡ lay z new old
+laid-on z new was old a b = b ∙ ap (lay z new) a ∙ lay-lay z new was old
+
+lies-on : {x y : Links} {ps qs : List Float} {outs₀ edges₀ faces₀ outs edges faces outs′ edges′ faces′ : List ℕ} {points₀ points points′ : List Float} →
+    Lies x ps outs₀ edges₀ faces₀ points₀ outs edges faces points → Lies y qs outs edges faces points outs′ edges′ faces′ points′ →
+    Lies y qs outs₀ edges₀ faces₀ points₀ outs′ edges′ faces′ points′
+lies-on {x} {y} {ps} {qs} {outs₀} {edges₀} {faces₀} {points₀ = points₀} a b = record {
+  outs-are = laid-on 0 (y .outs) (x .outs) outs₀ (a .outs-are) (b .outs-are);
+  edges-are = laid-on 0 (y .edges) (x .edges) edges₀ (a .edges-are) (b .edges-are);
+  faces-are = laid-on 0 (y .faces) (x .faces) faces₀ (a .faces-are) (b .faces-are);
+  points-are = laid-on float-zero qs ps points₀ (a .points-are) (b .points-are);
+}
+
+-- room goes by lengths
+roomy-in : {t : Tally} {outs₀ edges₀ faces₀ outs edges faces : List ℕ} {points₀ points : List Float} →
+    (length outs ≡ length outs₀) × (length edges ≡ length edges₀) × (length faces ≡ length faces₀) × (length points ≡ length points₀) →
+    Roomy t outs₀ edges₀ faces₀ points₀ → Roomy t outs edges faces points
+roomy-in e r =
+    let a = e .0 in
+    let b = e .1 in
+    let c = e .2 in
+    let d = e .3 in
+    let v = r .links-room .for-v in
+    let h = r .links-room .for-e in
+    let f = r .links-room .for-f in
+    let p = r .points-room in
+    record {
+      within = r .within;
+      links-room = record { for-v = omega arith; for-e = omega arith; for-f = omega arith };
+      points-room = omega arith;
+    }
+
+module _ {kind : Kind} {k : ℕ} {flag : Bool} {m : Links} {ps : List Float} {outs₀ edges₀ faces₀ : List ℕ} {points₀ work₀ : List Float}
+    {done : ℕ} {next : Bool} {d : Counts} {outs edges faces : List ℕ} {ps₁ work : List Float}
+    (i : Running kind k flag m ps outs₀ edges₀ faces₀ points₀ work₀ done next d outs edges faces ps₁ work) where
+  -- ---- what the slices hold
+  here : Roomy (tallyOf (i .x)) outs₀ edges₀ faces₀ points₀
+  here = first-room kind (i .left) next (i .x) (i .at) (i .remain .room)
 
   mesh-there : given d outs edges faces ≡ i .x
-  mesh-there = rw (i .counts-are, i .outs-are, i .edges-are, i .faces-are) (given-laid (i .x) (i .good) (grown .within) outs₀ edges₀ faces₀ (grown .links-room))
-
-  points-fit : 3 * i .x .nv ≤ length points₀
-  points-fit = let e = tally-sum (i .x) in let p = grown .points-room in omega arith
-
-  points-there : take (3 * i .x .nv) ps₁ ≡ i .qs
-  points-there = rw (i .points-are) (take-lay (i .qs) points₀ (3 * i .x .nv) (i .points-long) points-fit)
+  mesh-there =
+      rw (i .counts-are, i .lies .outs-are, i .lies .edges-are, i .lies .faces-are)
+      (given-laid (i .x) (laws-of kind .at-good next (i .x) (i .at) .sized) outs₀ edges₀ faces₀ (here .links-room))
 
   d-v : d .v ≡ i .x .nv
-  unfolding countsOf
-  d-v = ap (λ (c : Counts). c .v) (i .counts-are)
+  d-v = ap (λ (y : Links). y .nv) mesh-there
 
-  d-e : d .e ≡ i .x .ne
-  unfolding countsOf
-  d-e = ap (λ (c : Counts). c .e) (i .counts-are)
+  points-fit : 3 * d .v ≤ length points₀
+  points-fit = let a = here .points-room in let b = tally-v (i .x) in let c = d-v in omega arith
 
-  d-f : d .f ≡ i .x .nf
-  unfolding countsOf
-  d-f = ap (λ (c : Counts). c .f) (i .counts-are)
+  points-count : length (i .qs) ≡ 3 * d .v
+  points-count = let a = i .points-long in let c = d-v in omega arith
 
-  long : length ps₁ ≡ length points₀
-  long = rw (i .points-are) (length-lay float-zero (i .qs) points₀)
+  points-there : take (3 * d .v) ps₁ ≡ i .qs
+  points-there = rw (i .lies .points-are) (take-lay float-zero (i .qs) points₀ (3 * d .v) points-count points-fit)
 
-  three-v : 3 * d .v ≡ 3 * i .x .nv
-  three-v = ap (λ (n : ℕ). 3 * n) d-v
+  pub lengths : (length outs ≡ length outs₀) × (length edges ≡ length edges₀) × (length faces ≡ length faces₀) × (length ps₁ ≡ length points₀)
+  lengths = (
+    laid-length 0 (i .x .outs) outs₀ (i .lies .outs-are),
+    laid-length 0 (i .x .edges) edges₀ (i .lies .edges-are),
+    laid-length 0 (i .x .faces) faces₀ (i .lies .faces-are),
+    laid-length float-zero (i .qs) points₀ (i .lies .points-are),
+  )
 
-  pub run-ready : PassReady d outs edges faces ps₁ work
-  run-ready =
+  held : Held d outs edges faces ps₁
+  unfolding tallyOf
+  held =
+      let z = laws-of kind .at-good next (i .x) (i .at) .sized in
       let v = d-v in
-      let e = d-e in
-      let f = d-f in
-      let s = tally-sum (i .x) in
-      let n = long in
-      let p = grown .points-room in
-      let q = grown .work-room in
-      let w = i .work-long in
-      let b = points-fit in
+      let e : d .e ≡ i .x .ne = ap (λ (y : Links). y .ne) mesh-there in
+      let f : d .f ≡ i .x .nf = ap (λ (y : Links). y .nf) mesh-there in
+      let a = z .outs-long in
+      let b = z .edges-long in
+      let c = z .faces-long in
+      let o = here .links-room .for-v in
+      let h = here .links-room .for-e in
+      let g = here .links-room .for-f in
       record {
-        links-ready = ready;
-        points-in = omega arith;
-        points-room = rw mesh-there (omega arith);
-        points-hold = held;
-        work-room = omega arith;
-      }
-    where
-      ready : Ready d outs edges faces
-      ready = rw (i .counts-are, i .outs-are, i .edges-are, i .faces-are) (ready-laid (i .x) (i .good) (grown .within) outs₀ edges₀ faces₀ (grown .links-room))
-
-      held : ps₁ ≡ lay float-zero (take (3 * d .v) ps₁) ps₁
-      held =
-          i .points-are
-          ∙ sym (lay-lay float-zero (i .qs) (i .qs) points₀)
-          ∙ ap (λ (p : List Float). lay float-zero (i .qs) p) (sym (i .points-are))
-          ∙ ap (λ (p : List Float). lay float-zero p ps₁) (sym points-there)
-          ∙ ap (λ (n : ℕ). lay float-zero (take n ps₁) ps₁) (sym three-v)
-
-  laid-on : {A : Type 0} (z : A) (new was old cur out′ : List A) → cur ≡ lay z was old → out′ ≡ lay z new cur → out′ ≡ lay z new old
-  laid-on z new was old cur out′ a b = b ∙ ap (lay z new) a ∙ lay-lay z new was old
-
-  pub run-next : {d′ : Counts} {outs′ edges′ faces′ : List ℕ} {ps′ work′ : List Float} →
-      outs′ ≡ lay 0 (catmullPass (given d outs edges faces) .outs) outs → edges′ ≡ lay 0 (catmullPass (given d outs edges faces) .edges) edges →
-      faces′ ≡ lay 0 (catmullPass (given d outs edges faces) .faces) faces →
-      ps′ ≡ lay float-zero (catmullPoints update (given d outs edges faces) (take (3 * d .v) ps₁)) ps₁ →
-      d′ ≡ countsOf (catmullPass (given d outs edges faces)) → length work′ ≡ length work →
-      Running k update m ps outs₀ edges₀ faces₀ points₀ work₀ (left - 1) d′ outs′ edges′ faces′ ps′ work′
-  run-next {d′} {outs′} {edges′} {faces′} {ps′} {work′} a b c p e w =
-      let x′ = catmullPass (i .x) in
-      let g = mesh-there in
-      let q : take (3 * d .v) ps₁ ≡ i .qs = ap (λ (n : ℕ). take n ps₁) three-v ∙ points-there in
-      let new = catmullPoints update (i .x) (i .qs) in
-      let t = catmull-tally (i .x) (i .good) (grown .within) in
-      record {
-        x = x′;
-        qs = new;
-        counts-are = e ∙ ap (λ (y : Links). countsOf (catmullPass y)) g;
-        outs-are = laid-on 0 (x′ .outs) (i .x .outs) outs₀ outs outs′ (i .outs-are) (a ∙ ap (λ (y : Links). lay 0 (catmullPass y .outs) outs) g);
-        edges-are = laid-on 0 (x′ .edges) (i .x .edges) edges₀ edges edges′ (i .edges-are) (b ∙ ap (λ (y : Links). lay 0 (catmullPass y .edges) edges) g);
-        faces-are = laid-on 0 (x′ .faces) (i .x .faces) faces₀ faces faces′ (i .faces-are) (c ∙ ap (λ (y : Links). lay 0 (catmullPass y .faces) faces) g);
-        points-are = laid-on float-zero new (i .qs) points₀ ps₁ ps′ (i .points-are)
-            (p ∙ ap (λ (y : Links). lay float-zero (catmullPoints update y (take (3 * d .v) ps₁)) ps₁) g ∙ ap (λ (r : List Float). lay float-zero (catmullPoints update (i .x) r) ps₁) q);
-        points-long = points-long update (i .x) (i .qs) ∙ ap (λ (n : ℕ). 3 * n) (sym (grown-v (i .x) (i .good) (grown .within)));
-        work-long = w ∙ i .work-long;
-        good = catmull-good (i .x) (i .good) (grown .within);
-        room = subst (λ (t : Tally). Roomy (tallyAfter (left - 1) update t) outs₀ edges₀ faces₀ points₀ work₀) (sym t) later;
-        links-left = sym (links-on left update (i .x) l) ∙ i .links-left;
-        points-left = sym (points-on left update (i .x) (i .qs) l) ∙ i .points-left;
+        outs-hold = held-lay 0 (i .x .outs) outs₀ (d .v) (i .lies .outs-are) (omega arith) (omega arith);
+        edges-hold = held-lay 0 (i .x .edges) edges₀ (8 * d .e) (i .lies .edges-are) (omega arith) (omega arith);
+        faces-hold = held-lay 0 (i .x .faces) faces₀ (d .f) (i .lies .faces-are) (omega arith) (omega arith);
+        points-hold = held-lay float-zero (i .qs) points₀ (3 * d .v) (i .lies .points-are) points-count points-fit;
       }
 
--- ---- the last pass is done
-pub record RunDone (k : ℕ) (update : Bool) (m : Links) (ps : List Float) (outs₀ edges₀ faces₀ : List ℕ) (points₀ : List Float)
-    (d : Counts) (outs edges faces : List ℕ) (ps₁ : List Float) : Type 0 where
-  pub outs-are : outs ≡ lay 0 (linksAfter k update m .outs) outs₀
-  pub edges-are : edges ≡ lay 0 (linksAfter k update m .edges) edges₀
-  pub faces-are : faces ≡ lay 0 (linksAfter k update m .faces) faces₀
-  pub points-are : ps₁ ≡ lay float-zero (pointsAfter k update m ps) points₀
-  pub counts-are : d ≡ countsOf (linksAfter k update m)
+  -- ---- one pass more
+  module _ (l : done < k) where
+    remain : Remain (schemeOf kind) k flag m ps outs₀ edges₀ faces₀ points₀ work₀ (suc (i .left - 1)) done next (i .x) (i .qs)
+    remain =
+        let b = i .left-are in
+        let e : i .left ≡ suc (i .left - 1) = omega arith in
+        rw e at (i .remain)
 
-pub run-done : {k : ℕ} {update : Bool} {m : Links} {ps : List Float} {outs₀ edges₀ faces₀ : List ℕ} {points₀ work₀ : List Float}
-    {left : ℕ} {d : Counts} {outs edges faces : List ℕ} {ps₁ work : List Float} →
-    Running k update m ps outs₀ edges₀ faces₀ points₀ work₀ left d outs edges faces ps₁ work → left ≤ 0 →
-    RunDone k update m ps outs₀ edges₀ faces₀ points₀ d outs edges faces ps₁
-unfolding links points
-run-done {k} {update} {m} {ps} {outs₀} {edges₀} {faces₀} {points₀} {work₀} {left} i l =
-    let g : i .x ≡ linksAfter k update m = links-end left update (i .x) l ∙ i .links-left in
-    let q : i .qs ≡ pointsAfter k update m ps = points-end left update (i .x) (i .qs) l ∙ i .points-left in
-    record {
-      outs-are = i .outs-are ∙ ap (λ (y : Links). lay 0 (y .outs) outs₀) g;
-      edges-are = i .edges-are ∙ ap (λ (y : Links). lay 0 (y .edges) edges₀) g;
-      faces-are = i .faces-are ∙ ap (λ (y : Links). lay 0 (y .faces) faces₀) g;
-      points-are = i .points-are ∙ ap (λ (y : List Float). lay float-zero y points₀) q;
-      counts-are = i .counts-are ∙ ap countsOf g;
-    }
-  where
-    links-end : (n : ℕ) (u : Bool) (x : Links) → n ≤ 0 → x ≡ linksAfter n u x
-    links-end n u x b = let e : n ≡ 0 = omega arith in rw e
+    grown : Roomy (schemeOf kind .grow next (tallyOf (i .x))) outs₀ edges₀ faces₀ points₀
+    unfolding tally
+    grown =
+        let t = tallyOf (i .x) in
+        let f = good-faced (i .x) (laws-of kind .at-good next (i .x) (i .at)) in
+        roomy-less (tally-step (schemeOf kind) (sidesOf kind) (laws-of kind) (i .left - 1) (schemeOf kind .turn next) (schemeOf kind .grow next t) (laws-of kind .grow-step next t f .faced)) (remain .room)
 
-    points-end : (n : ℕ) (u : Bool) (x : Links) (r : List Float) → n ≤ 0 → r ≡ pointsAfter n u x r
-    points-end n u x r b = let e : n ≡ 0 = omega arith in rw e
+    pub run-ready : PassReady kind next d outs edges faces ps₁ work
+    run-ready =
+        let w = needed-first (schemeOf kind) (sidesOf kind) (laws-of kind) (i .left - 1) next (tallyOf (i .x)) (good-faced (i .x) (laws-of kind .at-good next (i .x) (i .at))) in
+        let a = tally-all (i .x) in
+        let n = remain .work-room in
+        let wl = i .work-long in
+        let q = lengths .3 in
+        let p = points-fit in
+        record {
+          at = subst⁻¹ (laws-of kind .At next) mesh-there (i .at);
+          held = held;
+          points-in = omega arith;
+          room = subst⁻¹ (λ (y : Links). Roomy (schemeOf kind .grow next (tallyOf y)) outs edges faces ps₁) mesh-there (roomy-in lengths grown);
+          work-room = (let s : d .v + d .e + d .f ≡ i .x .nv + i .x .ne + i .x .nf = ap (λ (y : Links). y .nv + y .ne + y .nf) mesh-there in omega arith);
+        }
 
-pub laid-length : {A : Type 0} (z : A) (l old : List A) {s : List A} → s ≡ lay z l old → length s ≡ length old
-laid-length z l old e = ap length e ∙ length-lay z l old
+    pub run-next : {d′ : Counts} {next′ : Bool} {outs′ edges′ faces′ : List ℕ} {ps′ work′ : List Float} →
+        Goes (schemeOf kind) next (given d outs edges faces) (take (3 * d .v) ps₁) d′ outs edges faces ps₁ outs′ edges′ faces′ ps′ →
+        next′ ≡ schemeOf kind .turn next → length work′ ≡ length work →
+        Running kind k flag m ps outs₀ edges₀ faces₀ points₀ work₀ (done + 1) next′ d′ outs′ edges′ faces′ ps′ work′
+    run-next {d′} {next′} {outs′} {edges′} {faces′} {ps′} {work′} goes t wl =
+        let S = schemeOf kind in
+        let g : Goes S next (i .x) (i .qs) d′ outs edges faces ps₁ outs′ edges′ faces′ ps′ =
+        subst (λ (qs : List Float). Goes S next (i .x) qs d′ outs edges faces ps₁ outs′ edges′ faces′ ps′) points-there
+        (subst (λ (y : Links). Goes S next y (take (3 * d .v) ps₁) d′ outs edges faces ps₁ outs′ edges′ faces′ ps′) mesh-there goes) in
+        let e : done + 1 ≡ suc done = omega arith in
+        let b = i .left-are in
+        record {
+          left = i .left - 1;
+          x = S .pass next (i .x);
+          qs = S .smooth next (i .x) (i .qs);
+          left-are = omega arith;
+          remain = rw (e, t) (one-done remain (g .weights-there) (laws-of kind .pass-tally next (i .x) (i .at) (grown .within)));
+          at = rw t (laws-of kind .goes-on next (i .x) (i .at) (grown .within));
+          counts-are = g .counts-are;
+          lies = lies-on (i .lies) (g .lies);
+          points-long = laws-of kind .smooth-long next (i .x) (i .qs) (i .at) (grown .within) (i .points-long);
+          work-long = wl ∙ i .work-long;
+        }
+
+    pub run-stops : {v : ℕ} → schemeOf kind .weightless next (given d outs edges faces) ≡ some v → heavy (schemeOf kind) k 1 flag m ≡ some (done + 1, v)
+    run-stops {v} e =
+        let a : done + 1 ≡ suc done = omega arith in
+        rw a (stops remain (ap (schemeOf kind .weightless next) (sym mesh-there) ∙ e))
+
+  -- ---- the last pass is done
+  pub run-done : k ≤ done → Comes (schemeOf kind) k flag m ps d next outs₀ edges₀ faces₀ points₀ outs edges faces ps₁
+  unfolding links points turned heavy
+  run-done l =
+      let b = i .left-are in
+      let z : i .left ≡ 0 = omega arith in
+      let r : Remain (schemeOf kind) k flag m ps outs₀ edges₀ faces₀ points₀ work₀ 0 done next (i .x) (i .qs) = rw z at (i .remain) in
+      record {
+        lies = rw (← r .links-left, ← r .points-left) (i .lies);
+        counts-are = i .counts-are ∙ ap countsOf (r .links-left);
+        flag-is = r .flag-left;
+        weights-there = sym (r .heavy-left);
+      }

@@ -1,6 +1,8 @@
-// Passes of Catmull-Clark, in place: the new points into the work slice, the links, then the points out of it.
+// Passes in place: the new points into the work slice, the links, then the points out of it.
 
 use catmull::pass::catmull_links;
+use room::kind::Kind;
+use room::kind::turn;
 use scope::records::Counts;
 use slices::numbers::copy_numbers;
 use smooth::catmull::catmull_points;
@@ -8,14 +10,46 @@ ghost use mathlib.Core.Path.{_≡_};
 ghost use lib.ListN.{take};
 ghost use Prim.Native.Nat.{_*_};
 ghost use Rattle.scope.specs.Lists.{lay, over};
-ghost use Rattle.scope.specs.Slices.{float-zero};
 ghost use Rattle.scope.specs.Points.{catmullPoints};
-ghost use Rattle.scope.specs.Passes.{catmullPass};
+ghost use Rattle.scope.specs.Schemes.{catmull};
 ghost use Rattle.scope.specs.Tally.{countsOf};
+ghost use Rattle.room.specs.Kinds.{schemeOf};
+ghost use Rattle.room.specs.declared.kind.Kind.the-variants.{Catmull};
 ghost use Rattle.catmull.specs.Pass.{given};
-ghost use Rattle.subdivide.specs.Passing.{PassReady, RunReady, linksAfter, pointsAfter};
+ghost use Rattle.subdivide.specs.Passing.{PrepareReady, PassReady, Goes, Went, RunReady, Went-on};
 
-// The points of the mesh after one pass, from those before it.
+// A pass that is done, with the counts after it; or the lowest vertex whose weight is needed and not there.
+pub enum Passed {
+    On(Counts),
+    NoWeightAt(u32),
+}
+
+// Passes that are done, with the counts and the flag after them; or the pass, counted from 1, that stopped, and its vertex.
+pub enum Ran {
+    Through(Counts, bool),
+    Stopped(u32, u32),
+}
+
+// What a scheme does to the links before its first pass. Answers the counts after it.
+pub fn prepare(
+    kind: Kind,
+    c: Counts,
+    outs: &mut [u32],
+    edges: &mut [u32],
+    faces: &mut [u32],
+) -> Counts
+    requires { ⌜ PrepareReady kind c (now outs) (now edges) (now faces) ⌝ }
+    ensures { λ _. ⌜ now (outs .exit) ≡ lay 0 (schemeOf kind .prepare (given c (now (outs .entry)) (now (edges .entry)) (now (faces .entry))) .outs) (now (outs .entry)) ⌝ }
+    ensures { λ _. ⌜ now (edges .exit) ≡ lay 0 (schemeOf kind .prepare (given c (now (outs .entry)) (now (edges .entry)) (now (faces .entry))) .edges) (now (edges .entry)) ⌝ }
+    ensures { λ _. ⌜ now (faces .exit) ≡ lay 0 (schemeOf kind .prepare (given c (now (outs .entry)) (now (edges .entry)) (now (faces .entry))) .faces) (now (faces .entry)) ⌝ }
+    ensures { λ r. ⌜ r ≡ countsOf (schemeOf kind .prepare (given c (now (outs .entry)) (now (edges .entry)) (now (faces .entry)))) ⌝ }
+{
+    match kind {
+        Kind::Catmull => c,
+    }
+}
+
+// The points of the mesh after one pass of Catmull-Clark, from those before it.
 fn new_points(
     outs: &[u32],
     edges: &[u32],
@@ -25,7 +59,7 @@ fn new_points(
     update: bool,
     work: &mut [f64],
 )
-    requires { ⌜ PassReady c (now outs) (now edges) (now faces) (now points) (now work) ⌝ }
+    requires { ⌜ PassReady Catmull update c (now outs) (now edges) (now faces) (now points) (now work) ⌝ }
     ensures { λ _. ⌜ now (work .exit) ≡ over (catmullPoints update (given c (now (outs .entry)) (now (edges .entry)) (now (faces .entry))) (take (3 * c .v) (now (points .entry)))) (now (work .entry)) ⌝ }
 {
     let v = c.v;
@@ -43,8 +77,8 @@ fn new_points(
     );
 }
 
-// One pass. Answers the counts after it.
-fn pass(
+// One pass of Catmull-Clark. Answers the counts after it.
+fn catmull_pass(
     update: bool,
     c: Counts,
     outs: &mut [u32],
@@ -53,12 +87,8 @@ fn pass(
     points: &mut [f64],
     work: &mut [f64],
 ) -> Counts
-    requires { ⌜ PassReady c (now outs) (now edges) (now faces) (now points) (now work) ⌝ }
-    ensures { λ _. ⌜ now (outs .exit) ≡ lay 0 (catmullPass (given c (now (outs .entry)) (now (edges .entry)) (now (faces .entry))) .outs) (now (outs .entry)) ⌝ }
-    ensures { λ _. ⌜ now (edges .exit) ≡ lay 0 (catmullPass (given c (now (outs .entry)) (now (edges .entry)) (now (faces .entry))) .edges) (now (edges .entry)) ⌝ }
-    ensures { λ _. ⌜ now (faces .exit) ≡ lay 0 (catmullPass (given c (now (outs .entry)) (now (edges .entry)) (now (faces .entry))) .faces) (now (faces .entry)) ⌝ }
-    ensures { λ _. ⌜ now (points .exit) ≡ lay float-zero (catmullPoints update (given c (now (outs .entry)) (now (edges .entry)) (now (faces .entry))) (take (3 * c .v) (now (points .entry)))) (now (points .entry)) ⌝ }
-    ensures { λ r. ⌜ r ≡ countsOf (catmullPass (given c (now (outs .entry)) (now (edges .entry)) (now (faces .entry)))) ⌝ }
+    requires { ⌜ PassReady Catmull update c (now outs) (now edges) (now faces) (now points) (now work) ⌝ }
+    ensures { λ r. ⌜ Goes catmull update (given c (now (outs .entry)) (now (edges .entry)) (now (faces .entry))) (take (3 * c .v) (now (points .entry))) r (now (outs .entry)) (now (edges .entry)) (now (faces .entry)) (now (points .entry)) (now (outs .exit)) (now (edges .exit)) (now (faces .exit)) (now (points .exit)) ⌝ }
 {
     new_points(outs, edges, faces, points, c, update, work);
     let d = catmull_links(outs, edges, faces, c);
@@ -66,29 +96,50 @@ fn pass(
     d
 }
 
-// Passes one after the other. Answers the counts after the last.
-pub fn run(
-    passes: u32,
-    update: bool,
+// One pass.
+fn pass(
+    kind: Kind,
+    flag: bool,
     c: Counts,
     outs: &mut [u32],
     edges: &mut [u32],
     faces: &mut [u32],
     points: &mut [f64],
     work: &mut [f64],
-) -> Counts
-    requires { ⌜ RunReady passes update c (now outs) (now edges) (now faces) (now points) (now work) ⌝ }
-    ensures { λ _. ⌜ now (outs .exit) ≡ lay 0 (linksAfter passes update (given c (now (outs .entry)) (now (edges .entry)) (now (faces .entry))) .outs) (now (outs .entry)) ⌝ }
-    ensures { λ _. ⌜ now (edges .exit) ≡ lay 0 (linksAfter passes update (given c (now (outs .entry)) (now (edges .entry)) (now (faces .entry))) .edges) (now (edges .entry)) ⌝ }
-    ensures { λ _. ⌜ now (faces .exit) ≡ lay 0 (linksAfter passes update (given c (now (outs .entry)) (now (edges .entry)) (now (faces .entry))) .faces) (now (faces .entry)) ⌝ }
-    ensures { λ _. ⌜ now (points .exit) ≡ lay float-zero (pointsAfter passes update (given c (now (outs .entry)) (now (edges .entry)) (now (faces .entry))) (take (3 * c .v) (now (points .entry)))) (now (points .entry)) ⌝ }
-    ensures { λ r. ⌜ r ≡ countsOf (linksAfter passes update (given c (now (outs .entry)) (now (edges .entry)) (now (faces .entry)))) ⌝ }
+) -> Passed
+    requires { ⌜ PassReady kind flag c (now outs) (now edges) (now faces) (now points) (now work) ⌝ }
+    ensures { λ r. ⌜ Went (schemeOf kind) flag (given c (now (outs .entry)) (now (edges .entry)) (now (faces .entry))) (take (3 * c .v) (now (points .entry))) (now (outs .entry)) (now (edges .entry)) (now (faces .entry)) (now (points .entry)) (now (outs .exit)) (now (edges .exit)) (now (faces .exit)) (now (points .exit)) r ⌝ }
 {
-    let mut left = passes;
-    let mut d = c;
-    while left > 0 {
-        d = pass(update, d, outs, edges, faces, points, work);
-        left -= 1;
+    match kind {
+        Kind::Catmull => Passed::On(catmull_pass(flag, c, outs, edges, faces, points, work)),
     }
-    d
+}
+
+// Passes one after the other, the first with this flag.
+pub fn run(
+    kind: Kind,
+    passes: u32,
+    flag: bool,
+    c: Counts,
+    outs: &mut [u32],
+    edges: &mut [u32],
+    faces: &mut [u32],
+    points: &mut [f64],
+    work: &mut [f64],
+) -> Ran
+    requires { ⌜ RunReady kind passes flag c (now outs) (now edges) (now faces) (now points) (now work) ⌝ }
+    ensures { λ r. ⌜ Went-on (schemeOf kind) passes flag (given c (now (outs .entry)) (now (edges .entry)) (now (faces .entry))) (take (3 * c .v) (now (points .entry))) (now (outs .entry)) (now (edges .entry)) (now (faces .entry)) (now (points .entry)) (now (outs .exit)) (now (edges .exit)) (now (faces .exit)) (now (points .exit)) r ⌝ }
+{
+    let mut done: u32 = 0;
+    let mut d = c;
+    let mut next = flag;
+    while done < passes {
+        match pass(kind, next, d, outs, edges, faces, points, work) {
+            Passed::NoWeightAt(v) => return Ran::Stopped(done + 1, v),
+            Passed::On(x) => d = x,
+        }
+        next = turn(kind, next);
+        done += 1;
+    }
+    Ran::Through(d, next)
 }

@@ -4,10 +4,11 @@ use audit::entry::fits;
 use room::forecast::Ahead;
 use room::forecast::forecast;
 use room::forecast::grow;
+use room::forecast::ready;
+use room::kind::Kind;
 use room::tally::count_up;
 use scope::records::Counts;
 ghost use mathlib.Core.Path.{_≡_};
-ghost use mathlib.Core.Bool.{Bool};
 ghost use mathlib.Core.Logic.{_≢_};
 ghost use lib.ListN.{length};
 ghost use Prim.Native.Nat.{_≤_, _*_};
@@ -15,7 +16,8 @@ ghost use Rattle.scope.specs.Slices.{sizes, fits-with};
 ghost use Rattle.call_laws.specs.Laws.{Faced};
 ghost use Rattle.audit.specs.Checked.{slicesAt};
 ghost use Rattle.room.specs.Amounts.{amountsAt, tallied};
-ghost use Rattle.subdivide.specs.Rooms.{enough-from};
+ghost use Rattle.room.specs.Kinds.{schemeOf};
+ghost use Rattle.subdivide.specs.Rooms.{enough-from, readied};
 
 // No slice is shorter than its count, with three numbers for each vertex, and no count is over 1,048,576.
 fn fits_with(
@@ -36,9 +38,12 @@ fn fits_with(
     fits(outs, edges, faces, vmarks, emarks, fmarks, c)
 }
 
-// Whether the result slices take what the passes make of a mesh with these edges and counts, and the work slice is long enough.
+// Whether the result slices take what the passes make of a mesh with these edges and counts, and the work slice is long enough. The flag
+// is that of the first pass.
 pub fn enough(
+    kind: Kind,
     passes: u32,
+    flag: bool,
     from: &[u32],
     c: Counts,
     outs: &[u32],
@@ -53,32 +58,24 @@ pub fn enough(
     requires { ⌜ c .e ≤ 1048576 ⌝ }
     requires { ⌜ 8 * c .e ≤ length (now from) ⌝ }
     requires { ⌜ (passes ≢ 0 → Faced (tallied (amountsAt c (now from)))) ⌝ }
-    ensures { λ r. ⌜ ((update : Bool) → r ≡ enough-from passes update (tallied (amountsAt c (now (from .entry)))) (sizes (slicesAt (now (outs .entry)) (now (edges .entry)) (now (faces .entry)) (now (vmarks .entry)) (now (emarks .entry)) (now (fmarks .entry)))) (length (now (points .entry))) (length (now (work .entry)))) ⌝ }
+    ensures { λ r. ⌜ r ≡ enough-from (schemeOf kind) passes flag (readied (schemeOf kind) passes (tallied (amountsAt c (now (from .entry))))) (sizes (slicesAt (now (outs .entry)) (now (edges .entry)) (now (faces .entry)) (now (vmarks .entry)) (now (emarks .entry)) (now (fmarks .entry)))) (length (now (points .entry))) (length (now (work .entry))) ⌝ }
 {
     if passes == 0 {
         return fits_with(outs, edges, faces, vmarks, emarks, fmarks, points, c);
     }
-    match forecast(passes - 1, count_up(from, c)) {
+    match forecast(kind, passes - 1, flag, ready(kind, count_up(from, c))) {
         Ahead::Over => false,
-        Ahead::Reached(a) => {
+        Ahead::Reached(a, next) => {
             if work.len() / 6 < a.v + a.e + a.f {
                 return false;
             }
-            let last = grow(a);
-            fits_with(
-                outs,
-                edges,
-                faces,
-                vmarks,
-                emarks,
-                fmarks,
-                points,
-                Counts {
-                    v: last.v,
-                    e: last.e,
-                    f: last.f,
-                },
-            )
+            let last = grow(kind, next, a);
+            let d = Counts {
+                v: last.v,
+                e: last.e,
+                f: last.f,
+            };
+            fits_with(outs, edges, faces, vmarks, emarks, fmarks, points, d)
         }
     }
 }

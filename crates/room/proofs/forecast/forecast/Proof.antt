@@ -1,5 +1,6 @@
 use borrow.Author.Needs.{needs}
 use Rattle.room.proofs.AheadLaws.{ahead-start, ahead-next, ahead-over, ahead-done}
+use Rattle.room.specs.Kinds.{schemeOf}
 use Rattle.room.specs.Ahead.{Ahead-of}
 use Rattle.room.specs.Amounts.{tallied}
 use Rattle.check_laws.proofs.Tells.{is-so, is-not}
@@ -7,22 +8,25 @@ use Rattle.room.proofs.forecast.forecast.Statement.{statement}
 use Rattle.room.proofs.forecast.forecast.Tie as tie
 
 abbrev Inv-loop : tie.InvT-loop
-Inv-loop k left₀ now₀ left now = Ahead-of k left (tallied now₀) (tallied now)
+Inv-loop kind k flag left₀ now₀ next₀ left now next = Ahead-of (schemeOf kind) k left flag next (tallied now₀) (tallied now)
 
 abbrev μ-loop : tie.MeasureT-loop
-μ-loop k left₀ now₀ left now = left
+μ-loop kind k flag left₀ now₀ next₀ left now next = left
 
 loop-holds : tie.Need-loop-holds Inv-loop μ-loop
-loop-holds c = ahead-start _ _ (c .pre .0) (c .pre .1)
+loop-holds c = ahead-start (c .args .kind) _ _ _ (c .pre .0) (c .pre .1)
 
 within-requires : tie.Need-within-requires Inv-loop μ-loop
 within-requires c κs = search needs
 
 returns : tie.Need-returns Inv-loop μ-loop
-returns c = ahead-over (c .before .before .before .loop .inv) (is-not (c .before .within .ensures) (c .if1 .taken))
+returns c = ahead-over (c .before .before .before .before .args .kind) (c .before .before .before .loop .inv) (is-not (c .before .within .ensures) (c .if1 .taken))
 
 grow-requires : tie.Need-grow-requires Inv-loop μ-loop
 grow-requires c κs = (is-so (c .before .within .ensures) (c .if1 .left), c .before .before .before .loop .inv .whole)
+
+turn-requires : tie.Need-turn-requires Inv-loop μ-loop
+turn-requires c κs = search needs
 
 sub-left : tie.Need-sub-left Inv-loop μ-loop
 sub-left c = search needs
@@ -31,16 +35,16 @@ loop-less : tie.Need-loop-less Inv-loop μ-loop
 loop-less c = search needs
 
 loop-again : tie.Need-loop-again Inv-loop μ-loop
-loop-again c = ahead-next (c .before .before .before .before .loop .inv) (c .before .before .before .loop-test .taken) (c .grow .ensures)
+loop-again c = ahead-next (c .before .before .before .before .before .before .args .kind) (c .before .before .before .before .before .loop .inv) (c .before .before .before .before .loop-test .taken) (c .before .grow .ensures) (c .turn .ensures)
 
 within-requires-2 : tie.Need-within-requires-2 Inv-loop μ-loop
 within-requires-2 c κs = search needs
 
 returns-2 : tie.Need-returns-2 Inv-loop μ-loop
-returns-2 c = ahead-over (c .before .before .before .loop .inv) (is-not (c .before .within2 .ensures) (c .if2 .taken))
+returns-2 c = ahead-over (c .before .before .before .before .args .kind) (c .before .before .before .loop .inv) (is-not (c .before .within2 .ensures) (c .if2 .taken))
 
 returns-3 : tie.Need-returns-3 Inv-loop μ-loop
-returns-3 c = (is-so (c .before .within2 .ensures) (c .if2 .left), ahead-done (c .before .before .before .loop .inv) (c .before .before .loop-test .left))
+returns-3 c = (is-so (c .before .within2 .ensures) (c .if2 .left), ahead-done (c .before .before .before .before .args .kind) (c .before .before .before .loop .inv) (c .before .before .loop-test .left))
 
 pub forecast-spec : {M : Type 1} → statement M
 forecast-spec =
@@ -52,6 +56,7 @@ forecast-spec =
     within-requires
     returns
     grow-requires
+    turn-requires
     sub-left
     loop-less
     loop-again

@@ -1,31 +1,24 @@
-use native.Mathlib.Omega.{arith}
-use mathlib.Core.Path.{refl}
-use Rattle.scope.specs.Tally.{catmullTally}
+use mathlib.Core.Path.{_≡_, refl, _∙_}
+use mathlib.Core.Bool.{Bool}
+use Rattle.scope.specs.Tally.{Tally, catmullTally}
+use Rattle.scope.specs.Schemes.{catmull}
+use Rattle.room.specs.declared.kind.Kind.{Kind}
+use Rattle.room.specs.declared.kind.Kind.the-variants.{Catmull}
+use Rattle.room.specs.Kinds.{schemeOf}
+use Rattle.room.specs.Amounts.{tallied}
 use borrow.Author.Needs.{needs}
 use Rattle.room.proofs.forecast.grow.Statement.{statement}
 use Rattle.room.proofs.forecast.grow.Tie as tie
 
-add-t2 : tie.Need-add-t2
-add-t2 c = search needs
+of-kind : (kind : Kind) (flag : Bool) (t : Tally) → catmullTally t ≡ schemeOf kind .grow flag t
+unfolding catmull
+of-kind Catmull flag t = refl
 
-add-t3 : tie.Need-add-t3
-add-t3 c = search needs
-
-mul-t4 : tie.Need-mul-t4
-mul-t4 c = search needs
-
-add-t5 : tie.Need-add-t5
-add-t5 c = search needs
-
-mul-t6 : tie.Need-mul-t6
-mul-t6 c = search needs
-
-mul-t7 : tie.Need-mul-t7
-mul-t7 c = search needs
+catmull-requires : tie.Need-catmull-requires
+catmull-requires c κs = search needs
 
 returns : tie.Need-returns
-unfolding catmullTally
-returns c = refl
+returns c = c .catmull .ensures ∙ of-kind (c .before .args .kind) (c .before .args .flag) (tallied (c .before .args .t))
 
 pub grow-spec : {M : Type 1} → statement M
-grow-spec = tie.close (tie.spec add-t2 add-t3 mul-t4 add-t5 mul-t6 mul-t7 returns)
+grow-spec = tie.close (tie.spec catmull-requires returns)

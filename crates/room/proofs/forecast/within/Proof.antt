@@ -1,6 +1,4 @@
 use native.Mathlib.Omega.{arith}
-use Rattle.room.specs.Amounts.{tallied}
-use Rattle.theory.specs.Sides.{Within}
 use Rattle.check_laws.proofs.Tells.{denied, told}
 use Rattle.room.proofs.forecast.within.Statement.{statement}
 use Rattle.room.proofs.forecast.within.Tie as tie

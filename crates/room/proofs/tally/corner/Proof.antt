@@ -1,5 +1,4 @@
 use mathlib.Core.Path.{_∙_, sym}
-use Rattle.theory.specs.Count.{bit}
 use borrow.Author.Needs.{needs}
 use Rattle.room.proofs.tally.corner.Statement.{statement}
 use Rattle.room.proofs.tally.corner.Tie as tie

@@ -2,7 +2,6 @@ use native.Mathlib.Omega.{arith}
 use borrow.Author.Needs.{needs}
 use Rattle.room.proofs.TallyLaws.{Counted, none-counted, one-counted, counted-few, counted-all, bit-of}
 use Rattle.mesh.specs.Rounds.{rimAt}
-use mathlib.Core.Path.{_∙_, sym}
 use mathlib.Core.Bool.{not}
 use Prim.Native.Nat.{_≤_, _-_}
 use Rattle.room.proofs.tally.corners.Statement.{statement}
