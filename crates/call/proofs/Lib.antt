@@ -1,0 +1,2 @@
+pub mod GoLaws
+pub mod CallLaws
