@@ -1,4 +1,4 @@
-"""The static library as a child process: what is handed to a call, and the driver that hands it over."""
+"""The static library as a child process: what is handed to a call, and the drivers that hand it over."""
 import os
 import struct
 import subprocess
@@ -8,6 +8,7 @@ from array import array
 TESTS = os.path.dirname(os.path.abspath(__file__))
 TOP = os.path.dirname(TESTS)
 sys.path.insert(0, os.path.join(TOP, "oracle", "py"))
+sys.path.insert(0, os.path.join(TOP, "tools"))
 
 
 class Handed:
@@ -33,16 +34,16 @@ class Handed:
         return struct.pack("=10Q", *self.counts, *map(len, slices)) + b"".join(bodies)
 
 
-def driver():
-    """Compiles the driver against the static library; gives its path."""
+def driver(name="driver"):
+    """Compiles a driver, NAME.c, against the static library; gives its path."""
     build = os.path.join(TESTS, "build")
     os.makedirs(build, exist_ok=True)
-    program = os.path.join(build, "driver")
+    program = os.path.join(build, name)
     archive = os.path.join(TOP, "target", "staticlib", "libexports.a")
     if not os.path.exists(archive):
         sys.exit("no static library; `rt staticlib exports` writes it")
     subprocess.run([os.environ.get("CC", "cc"), "-std=c99", "-D_POSIX_C_SOURCE=199309L", "-O2", "-Wall", "-Wextra", "-I", os.path.join(TOP, "include"),
-                    os.path.join(TESTS, "driver.c"), archive, "-o", program], check=True)
+                    os.path.join(TESTS, name + ".c"), archive, "-o", program], check=True)
     return program
 
 
