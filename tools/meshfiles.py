@@ -1,6 +1,7 @@
 #!/usr/bin/env python3
-"""meshfiles.py: writes the mesh files of crates/counter/stdin and crates/counter_runs/data from the oracle's generators, crates/counter_long/stdin, and
-crates/check_runs/stdin and stdout from the recorded check cases. Run in the repository's folder."""
+"""meshfiles.py: writes the mesh files of crates/counter/stdin, crates/counter_runs/data and crates/refine_runs/data from the oracle's generators,
+crates/counter_long/stdin, crates/check_runs/stdin and stdout from the recorded check cases, crates/refine/stdin, args and stdout from a recorded
+Catmull-Clark case, and the cube's file as crates/round_trip/specs/Cube.antt. Run in the repository's folder."""
 import os, random, struct, sys
 sys.path.insert(0, os.path.join('oracle', 'py'))
 import cases, gen, mesh
@@ -21,10 +22,9 @@ def file_of(m):
     return struct.pack(f'<{len(words)}I', *words) + struct.pack(f'<{3 * v}Q', *points) + struct.pack(f'<{len(body)}I', *body) + bytes(m.marks)
 
 
-def put(name, data):
-    path = os.path.join('crates', 'counter_runs', 'data', name)
-    os.makedirs(os.path.dirname(path), exist_ok=True)
-    with open(path, 'wb') as out:
+def put(name, data, folder='crates/counter_runs/data'):
+    os.makedirs(folder, exist_ok=True)
+    with open(os.path.join(folder, name), 'wb') as out:
         out.write(data)
 
 
@@ -56,8 +56,55 @@ def check_runs():
             print(c.answer, *place, file=out)
 
 
+CUBE = '''-- The cube's file (document 01, section 5: "a cube file of 722 bytes"), byte by byte: crates/counter/stdin. Written by tools/meshfiles.py. Assumes nothing.
+use Prim.Native.Nat.{ℕ}
+use mathlib.Core.List.{List, [], _∷_}
+
+abbrev pub cubeFile : List ℕ
+cubeFile =
+%s
+    []
+'''
+
+
+def cube_spec(data):
+    """The bytes as a list, 32 to a line; each of the file's parts begins a line."""
+    m = struct.unpack('<16I', data[:64])
+    ends = [0, *m[2::3], len(data)]
+    parts = [data[a:b] for a, b in zip(ends, ends[1:])]
+    lines = [part[i:i + 32] for part in parts for i in range(0, len(part), 32)]
+    with open('crates/round_trip/specs/Cube.antt', 'w') as out:
+        out.write(CUBE % '\n'.join('    ' + ' '.join(f'{x} ∷' for x in line) for line in lines))
+
+
+def refine_run():
+    """The first recorded case of two Catmull-Clark passes with the flag, as the program is asked for it, and the file of what the Rust made."""
+    case = next(c for c in cases.read('oracle/vectors/schemes.txt') if c.op == 'catmull 2 1' and finite(c.mesh) and finite(c.result))
+    os.makedirs('crates/refine', exist_ok=True)
+    with open('crates/refine/stdin', 'wb') as out:
+        out.write(file_of(case.mesh))
+    with open('crates/refine/args', 'w') as out:
+        print('catmull', 2, 'update', sep='\n', file=out)
+    with open('crates/refine/stdout', 'wb') as out:
+        out.write(file_of(case.result))
+
+
+def finite(m):
+    return all(x >> 52 & 2047 != 2047 for x in m.points)
+
+
+def cages():
+    """Cages to refine, with coordinates of all digits: closed, two with a rim, one of forty points, and one of which four passes fill the program's room."""
+    rng = random.Random(1)
+    for name, faces in (('cube', gen.cube()), ('sheet', gen.grid(3, 2)), ('tube', gen.tube(5, 2)), ('ring', gen.torus(8, 5)),
+                        ('largest', gen.torus(7, 16))):
+        put(name, file_of(gen.coords(gen.from_faces(faces), rng, 1)), 'crates/refine_runs/data')
+
+
 def main():
     check_runs()
+    refine_run()
+    cages()
     with open('crates/counter_long/stdin', 'wb') as out:
         out.write(bytes(65537))
     cube = gen.from_faces(gen.cube())
@@ -65,6 +112,7 @@ def main():
     os.makedirs('crates/counter', exist_ok=True)
     with open('crates/counter/stdin', 'wb') as out:
         out.write(data)
+    cube_spec(data)
     put('cube', data)
     put('longer', data + b'\0')                                                        # 15: a byte after its end
     put('mark', data[:-1] + b'\2')                                                     # 15: a mark that is not 0 or 1

@@ -1,0 +1,3 @@
+pub mod CopyLaws
+pub mod LineLaws
+pub mod WordLaws
