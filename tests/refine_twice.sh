@@ -4,7 +4,7 @@
 # Run in the repository's folder after `rt check refine`. The last line is 'N tests, M failed'; the status is 0 exactly if M is 0.
 ulimit -s 8192
 refine=target/bin/refine
-cages=crates/refine_runs/data
+cages=crates/runs_refine/data
 dir=$(mktemp -d) || exit 2
 trap 'rm -r "$dir"' EXIT
 tests=0
@@ -69,7 +69,7 @@ says 'refused 1' "$cube" catmull 13 update
 says 'refused 1' "$cube" catmull 999 keep
 says 'refused 5' "$cube" catmull 7 update
 says 'refused 15' /dev/null catmull 1 update
-counter=crates/counter_runs/data
+counter=crates/runs_counter/data
 says 'refused 15' $counter/longer catmull 1 update
 says 'refused 16' $counter/nan catmull 1 update
 says 'refused 3 rule 2 halfedge 0' $counter/broken catmull 1 update

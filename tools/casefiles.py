@@ -1,14 +1,14 @@
 #!/usr/bin/env python3
-"""casefiles.py: writes crates/catmull_runs/stdin and stdout: the recorded Catmull-Clark cases, the recorded checks that fail as calls of one pass, and cases
+"""casefiles.py: writes crates/runs_catmull/stdin and stdout: the recorded Catmull-Clark cases, the recorded checks that fail as calls of one pass, and cases
 of room, short slices, the order of the answers and deleted elements, whose outcome document 01 (section 4) says. The format is in
-crates/catmull_runs/src/main.rt. Run in the repository's folder."""
+crates/runs_catmull/src/main.rt. Run in the repository's folder."""
 import os, struct, sys
 sys.path.insert(0, os.path.join('oracle', 'py'))
 import cases, doc01, gen, mesh
 
 SLICES = ('outs', 'edges', 'faces', 'vmarks', 'emarks', 'fmarks', 'points')
 LENT = SLICES + ('work',)
-ROOM = dict(zip(LENT, (4096, 4096, 4096, 512, 512, 512, 2048, 2048)))       # as in crates/catmull_runs/src/replay.rt
+ROOM = dict(zip(LENT, (4096, 4096, 4096, 512, 512, 512, 2048, 2048)))       # as in crates/runs_catmull/src/replay.rt
 FORM = dict(zip(LENT, 'IIIBBBQQ'))
 LITTLE = dict(zip(LENT, (20, 160, 20, 20, 20, 20, 60, 240)))                 # lent where nothing is written
 
@@ -132,9 +132,9 @@ def exact_copy(m):
 def main():
     runs = [*recorded(), *broken(), *short(), *order()]
     assert len({r.name for r in runs}) == len(runs)
-    with open('crates/catmull_runs/stdin', 'wb') as out:
+    with open('crates/runs_catmull/stdin', 'wb') as out:
         out.write(b''.join(r.bytes() for r in runs))
-    with open('crates/catmull_runs/stdout', 'w') as out:
+    with open('crates/runs_catmull/stdout', 'w') as out:
         print('%d cases, 0 differences' % len(runs), file=out)
 
 

@@ -1,7 +1,7 @@
 #!/usr/bin/env python3
-"""meshfiles.py: writes the mesh files of crates/counter/stdin, crates/counter_runs/data and crates/refine_runs/data from the oracle's generators,
-crates/counter_long/stdin, crates/check_runs/stdin and stdout from the recorded check cases, crates/refine/stdin, args and stdout from a recorded
-Catmull-Clark case, and the cube's file as crates/round_trip/specs/Cube.antt. Run in the repository's folder."""
+"""meshfiles.py: writes the mesh files of crates/counter/stdin, crates/runs_counter/data and crates/runs_refine/data from the oracle's generators,
+crates/runs_counter_long/stdin, crates/runs_check/stdin and stdout from the recorded check cases, crates/refine/stdin, args and stdout from a recorded
+Catmull-Clark case, and the cube's file as crates/file_laws/specs/Cube.antt. Run in the repository's folder."""
 import os, random, struct, sys
 sys.path.insert(0, os.path.join('oracle', 'py'))
 import cases, gen, mesh
@@ -22,7 +22,7 @@ def file_of(m):
     return struct.pack(f'<{len(words)}I', *words) + struct.pack(f'<{3 * v}Q', *points) + struct.pack(f'<{len(body)}I', *body) + bytes(m.marks)
 
 
-def put(name, data, folder='crates/counter_runs/data'):
+def put(name, data, folder='crates/runs_counter/data'):
     os.makedirs(folder, exist_ok=True)
     with open(os.path.join(folder, name), 'wb') as out:
         out.write(data)
@@ -40,17 +40,17 @@ def double_torus():
     return [tuple(name[x] for x in t) for t in a[1:] + b]
 
 
-def check_runs():
+def runs_check():
     """The recorded check cases, each with its length before it in four bytes, and what the reader answers to each.
     Points are zero, so that no coordinate stands before the rules."""
     recorded = cases.read('oracle/vectors/check.txt')
     kinds = 'vhef'
-    with open('crates/check_runs/stdin', 'wb') as out:
+    with open('crates/runs_check/stdin', 'wb') as out:
         for c in recorded:
             c.mesh.points = []
             data = file_of(c.mesh)
             out.write(struct.pack('<I', len(data)) + data)
-    with open('crates/check_runs/stdout', 'w') as out:
+    with open('crates/runs_check/stdout', 'w') as out:
         for c in recorded:
             place = [c.place[0], kinds.index(c.place[1]), c.place[2]] if c.answer == 3 else []
             print(c.answer, *place, file=out)
@@ -73,7 +73,7 @@ def cube_spec(data):
     ends = [0, *m[2::3], len(data)]
     parts = [data[a:b] for a, b in zip(ends, ends[1:])]
     lines = [part[i:i + 32] for part in parts for i in range(0, len(part), 32)]
-    with open('crates/round_trip/specs/Cube.antt', 'w') as out:
+    with open('crates/file_laws/specs/Cube.antt', 'w') as out:
         out.write(CUBE % '\n'.join('    ' + ' '.join(f'{x} ∷' for x in line) for line in lines))
 
 
@@ -98,14 +98,14 @@ def cages():
     rng = random.Random(1)
     for name, faces in (('cube', gen.cube()), ('sheet', gen.grid(3, 2)), ('tube', gen.tube(5, 2)), ('ring', gen.torus(8, 5)),
                         ('largest', gen.torus(7, 16))):
-        put(name, file_of(gen.coords(gen.from_faces(faces), rng, 1)), 'crates/refine_runs/data')
+        put(name, file_of(gen.coords(gen.from_faces(faces), rng, 1)), 'crates/runs_refine/data')
 
 
 def main():
-    check_runs()
+    runs_check()
     refine_run()
     cages()
-    with open('crates/counter_long/stdin', 'wb') as out:
+    with open('crates/runs_counter_long/stdin', 'wb') as out:
         out.write(bytes(65537))
     cube = gen.from_faces(gen.cube())
     data = file_of(cube)

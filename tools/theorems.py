@@ -1,7 +1,7 @@
 #!/usr/bin/env python3
-"""Writes the theorems of crates/cases: K1 to K12 of document 01, and recorded cases of the Rust, both by computation on the definitions of crates/scope.
+"""Writes the theorems of crates/scope_cases: K1 to K12 of document 01, and recorded cases of the Rust, both by computation on the definitions of crates/scope.
 
-    tools/theorems.py            from the repository's top; reads oracle/vectors, writes crates/cases/specs/{Pieces,Schemes,Edits,Checks}.antt
+    tools/theorems.py            from the repository's top; reads oracle/vectors, writes crates/scope_cases/specs/{Pieces,Schemes,Edits,Checks}.antt
                               and, a few of the same, crates/scope/proofs/Witness.antt, with their words in Recorded.antt beside it; then rt fmt
 """
 import glob, re, sys
@@ -11,7 +11,7 @@ import cases as recorded
 import gen
 
 SPECS = "crates/scope/specs/"
-OUT = "crates/cases/specs/"
+OUT = "crates/scope_cases/specs/"
 LOCAL = "Rattle.scope.specs."      # scope's definitions as its own files name them
 LIMIT_EDGES = 30        # a done case is taken where its result has at most so many edges
 
@@ -427,7 +427,7 @@ def witness():
     pick.update({c[1]: 1 for c in cases if c[1][0] in EDIT and (c[1][1] == "0" or c[1][1] in ("9", "14"))})
     pick.update({("3", "1", "v"): 1, ("3", "2", "h"): 1, ("3", "4", "f"): 1, ("3", "8", "v"): 1})
     return """-- A few recorded cases of the Rust by computation, and the room that a pass asks for, beside the definitions themselves: a definition that is changed is refused here.
--- Written by tools/theorems.py from oracle/vectors; crates/cases has more. Assumes nothing.
+-- Written by tools/theorems.py from oracle/vectors; crates/scope_cases has more. Assumes nothing.
 """ + head.replace("ListN.{length", "ListN.{getD, length") + words("Rattle.scope.proofs.") + "\n" + "\n".join(take(cases, {k: n for k, n in pick.items() if any(c[1] == k for c in cases)})) + room(opened)
 
 

@@ -8,6 +8,6 @@ cp -r "$top/crates" "$top/crates.txt" "$copy/"
 mkdir -p "$copy/target"; [ -d "$top/target" ] && cp -r "$top/target/." "$copy/target/"
 cp -r "$here/timed" "$copy/crates/timed"
 find "$copy/crates/timed" -name '*.in' | while read -r f; do mv "$f" "${f%.in}"; done
-echo "timed: scope weights smooth smooth3" >> "$copy/crates.txt"
+echo "timed: scope points_weights points_catmull points_triangles" >> "$copy/crates.txt"
 (cd "$copy" && rt staticlib timed)
 mkdir -p "$here/out"; cp "$copy/target/staticlib/libtimed.a" "$here/out/"

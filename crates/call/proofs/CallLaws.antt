@@ -25,23 +25,23 @@ use Rattle.scope.specs.Tally.{Tally, tallyOf, countsOf, counted}
 use Rattle.scope.specs.Slices.{Given, Buffers, sizes, fits-with, used, linksOf, pointsOf, clean, slicesOf, filled, wiped}
 use Rattle.scope.specs.Call.{Scheme, links, points, tally, turned, heavy, begin, final, work-needed, enough, unwanted, overweight, last-links, last-flag, last-points, last-marks, subdivided, call}
 use Rattle.scope.specs.Answers.{refuse-if, refuse}
-use Rattle.theory.specs.Of.{Good}
-use Rattle.call_laws.specs.Laws.{Faced, Laws}
-use Rattle.call_laws.specs.Demand.{links-in, marks-in, points-in, Room}
-use Rattle.call_laws.proofs.Handed.{both, Fits, what-fits, Exact}
-use Rattle.call_laws.proofs.Passes.{good-faced}
-use Rattle.call_laws.proofs.Ends.{Fitting, Open, call-many, call-short, call-faulty, call-deleted, call-full, call-heavy, call-done, given-good, room-fits, ends}
-use Rattle.call_laws.proofs.Made.{copies}
-use Rattle.audit.specs.Checked.{answered}
-use Rattle.audit.proofs.EntryLaws.{answered-sound, answered-unsound}
-use Rattle.room.specs.Amounts.{amountsAt, tallied}
-use Rattle.room.proofs.TallyLaws.{tally-is}
-use Rattle.catmull.specs.Pass.{given}
-use Rattle.subdivide.specs.Looks.{looked, unwantedIn}
-use Rattle.subdivide.specs.Rooms.{readied, needed, enough-from}
-use Rattle.subdivide.specs.Lent.{outcomeAt}
+use Rattle.laws_mesh.specs.Of.{Good}
+use Rattle.laws_call.specs.Laws.{Faced, Laws}
+use Rattle.laws_call.specs.Demand.{links-in, marks-in, points-in, Room}
+use Rattle.laws_call.proofs.Handed.{both, Fits, what-fits, Exact}
+use Rattle.laws_call.proofs.Passes.{good-faced}
+use Rattle.laws_call.proofs.Ends.{Fitting, Open, call-many, call-short, call-faulty, call-deleted, call-full, call-heavy, call-done, given-good, room-fits, ends}
+use Rattle.laws_call.proofs.Made.{copies}
+use Rattle.check_mesh.specs.Checked.{answered}
+use Rattle.check_mesh.proofs.EntryLaws.{answered-sound, answered-unsound}
+use Rattle.call_room.specs.Amounts.{amountsAt, tallied}
+use Rattle.call_room.proofs.TallyLaws.{tally-is}
+use Rattle.links_catmull.specs.Pass.{given}
+use Rattle.call_steps.specs.Looks.{looked, unwantedIn}
+use Rattle.call_steps.specs.Rooms.{readied, needed, enough-from}
+use Rattle.call_steps.specs.Lent.{outcomeAt}
 use Rattle.call.specs.Gone.{laid-in, gone, goneBy, GoReady}
-use Rattle.subdivide.proofs.RoomLaws.{enough-is}
+use Rattle.call_steps.proofs.RoomLaws.{enough-is}
 
 unwanted-is : (S : Scheme) (k : ℕ) (d : Marks) → unwanted S k d ≡ unwantedIn k d
 unfolding unwanted

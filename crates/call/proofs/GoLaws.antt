@@ -16,24 +16,24 @@ use Rattle.scope.specs.Links.{Links}
 use Rattle.scope.specs.Tally.{Tally, tallyOf, countsOf}
 use Rattle.scope.specs.Slices.{Buffers, float-zero, filled, wiped, used, pointsOf}
 use Rattle.scope.specs.Call.{Scheme, links, points, tally, heavy}
-use Rattle.theory.specs.Of.{Good}
-use Rattle.theory.specs.Sides.{Within}
-use Rattle.call_laws.specs.Laws.{Step, Laws}
-use Rattle.call_laws.proofs.Lists.{length-lay, lay-same}
-use Rattle.call_laws.proofs.Passes.{within-step, good-faced, tally-step}
-use Rattle.audit.specs.Checked.{slicesAt}
-use Rattle.room.specs.declared.kind.Kind.{Kind}
-use Rattle.room.specs.Kinds.{schemeOf, sidesOf}
-use Rattle.room.proofs.KindLaws.{laws-of}
-use Rattle.edit.proofs.StoreLaws.{held-is}
-use Rattle.catmull.specs.Pass.{given, Room}
-use Rattle.catmull.proofs.ReadyLaws.{take-lay, lay-lay, held-lay, given-laid}
-use Rattle.subdivide.specs.declared.passes.Ran.{Ran}
-use Rattle.subdivide.specs.declared.passes.Ran.the-variants.{Through, Stopped}
-use Rattle.subdivide.specs.Rooms.{needed}
-use Rattle.subdivide.specs.Stores.{Takes}
-use Rattle.subdivide.specs.Passing.{Roomy, PrepareReady, RunReady, Comes, Went-on}
-use Rattle.subdivide.specs.Lent.{buffersAt, outcomeAt}
+use Rattle.laws_mesh.specs.Of.{Good}
+use Rattle.laws_mesh.specs.Sides.{Within}
+use Rattle.laws_call.specs.Laws.{Step, Laws}
+use Rattle.laws_call.proofs.Lists.{length-lay, lay-same}
+use Rattle.laws_call.proofs.Passes.{within-step, good-faced, tally-step}
+use Rattle.check_mesh.specs.Checked.{slicesAt}
+use Rattle.call_room.specs.declared.kind.Kind.{Kind}
+use Rattle.call_room.specs.Kinds.{schemeOf, sidesOf}
+use Rattle.call_room.proofs.KindLaws.{laws-of}
+use Rattle.links_edits.proofs.StoreLaws.{held-is}
+use Rattle.links_catmull.specs.Pass.{given, Room}
+use Rattle.links_catmull.proofs.ReadyLaws.{take-lay, lay-lay, held-lay, given-laid}
+use Rattle.call_steps.specs.declared.passes.Ran.{Ran}
+use Rattle.call_steps.specs.declared.passes.Ran.the-variants.{Through, Stopped}
+use Rattle.call_steps.specs.Rooms.{needed}
+use Rattle.call_steps.specs.Stores.{Takes}
+use Rattle.call_steps.specs.Passing.{Roomy, PrepareReady, RunReady, Comes, Went-on}
+use Rattle.call_steps.specs.Lent.{buffersAt, outcomeAt}
 use Rattle.call.specs.Gone.{laid-in, gone, goneBy, GoReady}
 
 laid-long : {A : Type 0} (z : A) (l old s : List A) → s ≡ lay z l old → length s ≡ length old

@@ -14,13 +14,13 @@ use Rattle.scope.specs.Links.{Links}
 use Rattle.scope.specs.Tally.{tallyOf, countsOf}
 use Rattle.scope.specs.Slices.{Buffers, float-zero, wiped}
 use Rattle.scope.specs.Call.{Scheme, Outcome, links, points, tally, turned, heavy}
-use Rattle.theory.specs.Of.{Good}
-use Rattle.audit.specs.Checked.{slicesAt}
-use Rattle.catmull.specs.Pass.{given}
-use Rattle.subdivide.specs.Rooms.{needed}
-use Rattle.subdivide.specs.Passing.{Roomy}
-use Rattle.subdivide.specs.Stores.{Takes}
-use Rattle.subdivide.specs.Lent.{outcomeAt}
+use Rattle.laws_mesh.specs.Of.{Good}
+use Rattle.check_mesh.specs.Checked.{slicesAt}
+use Rattle.links_catmull.specs.Pass.{given}
+use Rattle.call_steps.specs.Rooms.{needed}
+use Rattle.call_steps.specs.Passing.{Roomy}
+use Rattle.call_steps.specs.Stores.{Takes}
+use Rattle.call_steps.specs.Lent.{outcomeAt}
 
 -- a mesh without marks and its points, then zeros; the work slice zero
 unfoldable pub laid-in : Links → List Float → Buffers → Buffers

@@ -1,30 +1,30 @@
 // The subdivision call (document 01, section 4): its answer for every input, and what it leaves in every slice that was lent.
 
-use room::kind::Kind;
-use room::kind::settle;
+use call_room::kind::Kind;
+use call_room::kind::settle;
+use call_steps::look::look;
+use call_steps::passes::Ran;
+use call_steps::passes::prepare;
+use call_steps::passes::run;
+use call_steps::space::enough;
+use call_steps::store::clear_marks;
+use call_steps::store::copy_links;
+use call_steps::store::copy_mesh;
+use call_steps::store::wipe;
 use scope::answers::Checked;
 use scope::answers::Refusal;
 use scope::answers::Subdivided;
 use scope::records::Counts;
 use slices::numbers::clear_numbers;
 use slices::numbers::lay_numbers;
-use subdivide::look::look;
-use subdivide::passes::Ran;
-use subdivide::passes::prepare;
-use subdivide::passes::run;
-use subdivide::space::enough;
-use subdivide::store::clear_marks;
-use subdivide::store::copy_links;
-use subdivide::store::copy_mesh;
-use subdivide::store::wipe;
 ghost use mathlib.Core.Path.{_≡_};
 ghost use lib.ListN.{take};
 ghost use Prim.Native.Nat.{_*_};
 ghost use Rattle.scope.specs.Call.{call};
-ghost use Rattle.audit.specs.Checked.{slicesAt};
-ghost use Rattle.room.specs.Kinds.{schemeOf};
-ghost use Rattle.catmull.specs.Pass.{given};
-ghost use Rattle.subdivide.specs.Lent.{givenAt, buffersAt, outcomeAt};
+ghost use Rattle.check_mesh.specs.Checked.{slicesAt};
+ghost use Rattle.call_room.specs.Kinds.{schemeOf};
+ghost use Rattle.links_catmull.specs.Pass.{given};
+ghost use Rattle.call_steps.specs.Lent.{givenAt, buffersAt, outcomeAt};
 ghost use Rattle.call.specs.Gone.{goneBy, GoReady};
 
 // One pass or more of a mesh for which there is room, the first with this flag.

@@ -1,8 +1,8 @@
 // Reads one mesh file of at most 65,536 bytes from standard input, and writes one line: its counts, or the refusal.
 fn main() {
-    let mut file = teller::whole::new_file();
+    let mut file = count_line::whole::new_file();
     let n = io::read_full(0, &mut file);
     let mut line = [0u8; 167];
-    let k = teller::whole::say(&file[..n], &mut line);
+    let k = count_line::whole::say(&file[..n], &mut line);
     io::write_all(1, &line[..k]);
 }

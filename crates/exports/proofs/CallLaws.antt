@@ -5,9 +5,9 @@ use mathlib.Core.Bool.{Bool}
 use Rattle.scope.specs.declared.answers.Subdivided.{Subdivided}
 use Rattle.scope.specs.Slices.{Given, Buffers}
 use Rattle.scope.specs.Call.{Scheme, call}
-use Rattle.subdivide.specs.Lent.{outcomeAt}
-use Rattle.flat.specs.declared.answers.FlatSubdivided.{FlatSubdivided}
-use Rattle.flat.specs.Flat.{flatSubdivided}
+use Rattle.call_steps.specs.Lent.{outcomeAt}
+use Rattle.exports_flat.specs.declared.answers.FlatSubdivided.{FlatSubdivided}
+use Rattle.exports_flat.specs.Flat.{flatSubdivided}
 
 pub came-apart : (S : Scheme) (k : ℕ) (flag asked : Bool) (g : Given) (b left : Buffers) (x : Subdivided) (r : FlatSubdivided)
     → r ≡ flatSubdivided x → outcomeAt x left ≡ call S k flag g b → flag ≡ asked

@@ -1,31 +1,31 @@
 // The calls themselves. Each is a proved function of the library, its answer made flat; none asks anything of its caller.
 
-use audit::entry::check;
 use call::subdivide;
-use flat::answers::Flat;
-use flat::answers::FlatRead;
-use flat::answers::FlatSubdivided;
-use flat::answers::FlatWritten;
-use flat::answers::flag_of;
-use flat::answers::flat_checked;
-use flat::answers::flat_reading;
-use flat::answers::flat_subdivided;
-use flat::answers::flat_writing;
-use meshfile::read::read;
-use room::kind::Kind;
+use call_room::kind::Kind;
+use check_mesh::entry::check;
+use exports_flat::answers::Flat;
+use exports_flat::answers::FlatRead;
+use exports_flat::answers::FlatSubdivided;
+use exports_flat::answers::FlatWritten;
+use exports_flat::answers::flag_of;
+use exports_flat::answers::flat_checked;
+use exports_flat::answers::flat_reading;
+use exports_flat::answers::flat_subdivided;
+use exports_flat::answers::flat_writing;
+use file_read::read::read;
+use file_write::write::write;
 use scope::records::Counts;
-use writer::write::write;
 ghost use mathlib.Core.Path.{_≡_};
 ghost use lib.ListN.{length};
 ghost use Rattle.scope.specs.Answers.{saidChecked};
 ghost use Rattle.scope.specs.Slices.{sizes};
 ghost use Rattle.scope.specs.Call.{call};
 ghost use Rattle.scope.specs.Schemes.{catmull};
-ghost use Rattle.audit.specs.Checked.{slicesAt, checked};
-ghost use Rattle.meshfile.specs.Format.{fileCounts, file-end, read-refusal, reading, lentAt, read-leaves, write-refusal, write-leaves};
-ghost use Rattle.writer.specs.Writes.{writing};
-ghost use Rattle.subdivide.specs.Lent.{givenAt, buffersAt};
-ghost use Rattle.flat.specs.Flat.{flatOf, countsAt, flatReading, flatWriting, flagOf, flatSubdivided};
+ghost use Rattle.check_mesh.specs.Checked.{slicesAt, checked};
+ghost use Rattle.file_read.specs.Format.{fileCounts, file-end, read-refusal, reading, lentAt, read-leaves, write-refusal, write-leaves};
+ghost use Rattle.file_write.specs.Writes.{writing};
+ghost use Rattle.call_steps.specs.Lent.{givenAt, buffersAt};
+ghost use Rattle.exports_flat.specs.Flat.{flatOf, countsAt, flatReading, flatWriting, flagOf, flatSubdivided};
 
 // The consistency check of a mesh of v vertices, e edges and f faces (document 01, section 2): answers 0, 2 and 3. It changes nothing.
 #[no_mangle]

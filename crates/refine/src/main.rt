@@ -1,24 +1,24 @@
 // refine SCHEME PASSES FLAG < cage > result
 //
 // Reads a mesh file from standard input, refines it and writes the result's file to standard output. On standard error it says in one line what was
-// done and what the next run must be told (card::lines): `next` is the flag to give it. A refusal writes `refused`, document 01's number and the place, and
+// done and what the next run must be told (refine_words::lines): `next` is the flag to give it. A refusal writes `refused`, document 01's number and the place, and
 // nothing to standard output. A program cannot set its exit status.
 
-use card::lines::put_card;
-use card::lines::put_refused;
-use card::words::FlagAsked;
-use card::words::PassesAsked;
-use card::words::SchemeAsked;
-use card::words::flag_asked;
-use card::words::passes_asked;
-use card::words::scheme_asked;
-use desk::file_bytes;
-use desk::run;
-use job::Refined;
+use call_room::kind::Kind;
 use libc::STDERR_FILENO;
 use libc::STDIN_FILENO;
 use libc::STDOUT_FILENO;
-use room::kind::Kind;
+use refine_job::Refined;
+use refine_room::file_bytes;
+use refine_room::run;
+use refine_words::lines::put_card;
+use refine_words::lines::put_refused;
+use refine_words::words::FlagAsked;
+use refine_words::words::PassesAsked;
+use refine_words::words::SchemeAsked;
+use refine_words::words::flag_asked;
+use refine_words::words::passes_asked;
+use refine_words::words::scheme_asked;
 use scope::answers::Refusal;
 use scope::records::Counts;
 

@@ -1,5 +1,5 @@
 -- A few recorded cases of the Rust by computation, and the room that a pass asks for, beside the definitions themselves: a definition that is changed is refused here.
--- Written by tools/theorems.py from oracle/vectors; crates/cases has more. Assumes nothing.
+-- Written by tools/theorems.py from oracle/vectors; crates/scope_cases has more. Assumes nothing.
 use mathlib.Core.Path.{_≡_, refl}
 use mathlib.Core.Bool.{Bool, true, false}
 use mathlib.Core.List.{List, [], _∷_, _++_, map}

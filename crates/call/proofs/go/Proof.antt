@@ -1,6 +1,6 @@
 use mathlib.Core.Path.{_∙_}
-use Rattle.audit.specs.Checked.{slicesAt}
-use Rattle.subdivide.specs.Lent.{buffersAt}
+use Rattle.check_mesh.specs.Checked.{slicesAt}
+use Rattle.call_steps.specs.Lent.{buffersAt}
 use Rattle.call.proofs.GoLaws.{takes-new, points-new, prepare-ready, run-there, ends-through, ends-stopped}
 use borrow.Author.Needs.{needs}
 use Rattle.call.proofs.go.Statement.{statement}

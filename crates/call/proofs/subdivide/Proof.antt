@@ -7,11 +7,11 @@ use Rattle.scope.specs.declared.answers.Refusal.the-variants.{NoRoom}
 use Rattle.scope.specs.declared.answers.Subdivided.the-variants.{Done, Refused}
 use Rattle.scope.specs.Slices.{sizes, linksOf}
 use Rattle.scope.specs.Tally.{countsOf}
-use Rattle.call_laws.specs.Demand.{links-in}
-use Rattle.audit.specs.Checked.{slicesAt}
-use Rattle.room.specs.Kinds.{schemeOf, sidesOf}
-use Rattle.room.proofs.KindLaws.{laws-of}
-use Rattle.subdivide.specs.Lent.{givenAt, buffersAt, outcomeAt}
+use Rattle.laws_call.specs.Demand.{links-in}
+use Rattle.check_mesh.specs.Checked.{slicesAt}
+use Rattle.call_room.specs.Kinds.{schemeOf, sidesOf}
+use Rattle.call_room.proofs.KindLaws.{laws-of}
+use Rattle.call_steps.specs.Lent.{givenAt, buffersAt, outcomeAt}
 use Rattle.call.proofs.CallLaws.{seen-refused, seen-clear, fits-given, up-faced, room-judged, ends-full, fits-zero, ends-copied, ends-ready, ends-gone}
 use borrow.Author.Needs.{needs}
 use Rattle.call.proofs.subdivide.Statement.{statement}

@@ -1,5 +1,5 @@
 use mathlib.Core.Path.{ap, _∙_}
-use Rattle.flat.specs.Flat.{flatReading}
+use Rattle.exports_flat.specs.Flat.{flatReading}
 use borrow.Author.Needs.{needs}
 use Rattle.exports.proofs.calls.ternaglup_read.Statement.{statement}
 use Rattle.exports.proofs.calls.ternaglup_read.Tie as tie

@@ -1,0 +1,61 @@
+use Prim.Native.Nat.{_*_, _-_, _≤_, ℕ}
+use Rattle.mesh.specs.Words.{tailAt}
+use Rattle.check_rules.proofs.HalfLaws.{has-partner}
+use Rattle.check_rules.proofs.Searches.{low-start, low-step}
+use Rattle.check_rules.specs.Place.{Low}
+use Rattle.check_rules.specs.Rule.{Named}
+use borrow.Author.Needs.{needs}
+use denote.Ref.{now}
+use mathlib.Core.Path.{_≡_}
+use native.Mathlib.Omega.{arith}
+use Rattle.check_rounds.proofs.low.lowest_not_named.Statement.{statement}
+use Rattle.check_rounds.proofs.low.lowest_not_named.Tie as tie
+
+abbrev Inv-loop : tie.InvT-loop
+Inv-loop edges emarks outs vmarks ne nv n best₀ k₀ best k = (k ≤ 2 * ne) × Low (λ (j : ℕ). Named edges emarks outs ne j) (λ (j : ℕ). tailAt edges j) k nv best
+
+abbrev μ-loop : tie.MeasureT-loop
+μ-loop edges emarks outs vmarks ne nv n best₀ k₀ best k = 2 * ne - k
+
+mul-n : tie.Need-mul-n Inv-loop μ-loop
+mul-n c = search needs
+
+loop-holds : tie.Need-loop-holds Inv-loop μ-loop
+loop-holds c = (omega arith, low-start)
+
+named-ok-requires : tie.Need-named-ok-requires Inv-loop μ-loop
+named-ok-requires c κs = (c .before .before .before .before .before .before .pre .0, (c .before .before .before .before .before .before .pre .1 .0, (c .before .before .before .before .before .before .pre .1 .1, c .loop-test .taken)))
+
+tail-requires : tie.Need-tail-requires Inv-loop μ-loop
+tail-requires c κs = has-partner (now (c .before .before .before .before .before .before .before .args .edges)) (c .before .before .before .before .before .before .before .args .ne) (c .before .before .loop .k) (c .before .before .before .before .before .before .before .pre .0 .room) (c .before .loop-test .taken)
+
+lower-requires : tie.Need-lower-requires Inv-loop μ-loop
+lower-requires c κs = search needs
+
+add-k : tie.Need-add-k Inv-loop μ-loop
+add-k c = search needs
+
+loop-less : tie.Need-loop-less Inv-loop μ-loop
+loop-less c = search needs
+
+loop-again : tie.Need-loop-again Inv-loop μ-loop
+loop-again c = (omega arith, low-step (c .before .before .before .before .loop .inv .1) (c .before .before .named-ok .ensures) (rw (c .before .tail .ensures) at (c .lower .ensures)))
+
+returns : tie.Need-returns Inv-loop μ-loop
+returns c = let e : c .before .loop .k ≡ 2 * c .before .before .before .before .before .before .args .ne = omega (arith, c .before .loop .inv .0, c .loop-test .left) in rw e at (c .before .loop .inv .1)
+
+pub lowest-not-named-spec : {M : Type 1} → statement M
+lowest-not-named-spec =
+    tie.close
+    (tie.spec
+    Inv-loop
+    μ-loop
+    mul-n
+    loop-holds
+    named-ok-requires
+    tail-requires
+    lower-requires
+    add-k
+    loop-less
+    loop-again
+    returns)

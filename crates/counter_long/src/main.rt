@@ -1,8 +1,0 @@
-// The counter on an input of one byte more than it takes: refused before all else.
-fn main() {
-    let mut file = teller::whole::new_file();
-    let n = io::read_full(0, &mut file);
-    let mut line = [0u8; 167];
-    let k = teller::whole::say(&file[..n], &mut line);
-    io::write_all(1, &line[..k]);
-}

@@ -1,0 +1,17 @@
+use native.Mathlib.Omega.{arith}
+use Rattle.runs_catmull.proofs.CountLaws.{counts}
+use borrow.Author.Needs.{needs}
+use Rattle.runs_catmull.proofs.replay.of_marks.Statement.{statement}
+use Rattle.runs_catmull.proofs.replay.of_marks.Tie as tie
+
+word-in-requires : tie.Need-word-in-requires
+word-in-requires c κs = search needs
+
+returns : tie.Need-returns
+returns c = counts _ _ (omega arith)
+
+returns-2 : tie.Need-returns-2
+returns-2 c = counts _ _ (omega arith)
+
+pub of-marks-spec : {M : Type 1} → statement M
+of-marks-spec = tie.close (tie.spec word-in-requires returns returns-2)
