@@ -36,7 +36,7 @@ use Rattle.check_mesh.specs.Checked.{answered}
 use Rattle.check_mesh.proofs.EntryLaws.{answered-sound, answered-unsound}
 use Rattle.call_room.specs.Amounts.{amountsAt, tallied}
 use Rattle.call_room.proofs.TallyLaws.{tally-is}
-use Rattle.links_catmull.specs.Pass.{given}
+use Rattle.links_edits.specs.Held.{given}
 use Rattle.call_steps.specs.Looks.{looked, unwantedIn}
 use Rattle.call_steps.specs.Rooms.{readied, needed, enough-from}
 use Rattle.call_steps.specs.Lent.{outcomeAt}

@@ -26,8 +26,8 @@ use Rattle.call_room.specs.declared.kind.Kind.{Kind}
 use Rattle.call_room.specs.Kinds.{schemeOf, sidesOf}
 use Rattle.call_room.proofs.KindLaws.{laws-of}
 use Rattle.links_edits.proofs.StoreLaws.{held-is}
-use Rattle.links_catmull.specs.Pass.{given, Room}
-use Rattle.links_catmull.proofs.ReadyLaws.{take-lay, lay-lay, held-lay, given-laid}
+use Rattle.links_edits.specs.Held.{given, Room}
+use Rattle.links_edits.proofs.HeldLaws.{take-lay, lay-lay, held-lay, given-laid}
 use Rattle.call_steps.specs.declared.passes.Ran.{Ran}
 use Rattle.call_steps.specs.declared.passes.Ran.the-variants.{Through, Stopped}
 use Rattle.call_steps.specs.Rooms.{needed}

@@ -16,7 +16,7 @@ use Rattle.scope.specs.Slices.{Buffers, float-zero, wiped}
 use Rattle.scope.specs.Call.{Scheme, Outcome, links, points, tally, turned, heavy}
 use Rattle.laws_mesh.specs.Of.{Good}
 use Rattle.check_mesh.specs.Checked.{slicesAt}
-use Rattle.links_catmull.specs.Pass.{given}
+use Rattle.links_edits.specs.Held.{given}
 use Rattle.call_steps.specs.Rooms.{needed}
 use Rattle.call_steps.specs.Passing.{Roomy}
 use Rattle.call_steps.specs.Stores.{Takes}

@@ -23,7 +23,7 @@ ghost use Prim.Native.Nat.{_*_};
 ghost use Rattle.scope.specs.Call.{call};
 ghost use Rattle.check_mesh.specs.Checked.{slicesAt};
 ghost use Rattle.call_room.specs.Kinds.{schemeOf};
-ghost use Rattle.links_catmull.specs.Pass.{given};
+ghost use Rattle.links_edits.specs.Held.{given};
 ghost use Rattle.call_steps.specs.Lent.{givenAt, buffersAt, outcomeAt};
 ghost use Rattle.call.specs.Gone.{goneBy, GoReady};
 

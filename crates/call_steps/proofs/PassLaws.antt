@@ -31,7 +31,8 @@ use Rattle.laws_schemes.proofs.Catmull.{points-long}
 use Rattle.call_room.specs.declared.kind.Kind.{Kind}
 use Rattle.call_room.specs.declared.kind.Kind.the-variants.{Catmull}
 use Rattle.call_room.proofs.KindLaws.{laws-of}
-use Rattle.links_catmull.specs.Pass.{given, Ready}
+use Rattle.links_edits.specs.Held.{given}
+use Rattle.links_catmull.specs.Pass.{Ready}
 use Rattle.call_steps.specs.Passing.{PrepareReady, PassReady, Goes}
 
 neither : (a b : Bool) → (a || b) ≡ false → (a ≡ false) × (b ≡ false)

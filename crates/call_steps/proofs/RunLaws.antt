@@ -20,8 +20,8 @@ use Rattle.laws_call.proofs.Passes.{within-step, tally-step, good-faced}
 use Rattle.call_room.specs.declared.kind.Kind.{Kind}
 use Rattle.call_room.specs.Kinds.{schemeOf, sidesOf}
 use Rattle.call_room.proofs.KindLaws.{laws-of}
-use Rattle.links_catmull.specs.Pass.{given}
-use Rattle.links_catmull.proofs.ReadyLaws.{take-lay, lay-lay, held-lay, given-laid}
+use Rattle.links_edits.specs.Held.{given}
+use Rattle.links_edits.proofs.HeldLaws.{take-lay, lay-lay, held-lay, given-laid}
 use Rattle.call_steps.specs.Rooms.{needed}
 use Rattle.call_steps.specs.Passing.{Held, Roomy, Lies, PassReady, Goes, RunReady, Comes}
 use Rattle.call_steps.proofs.PassLaws.{tally-v}

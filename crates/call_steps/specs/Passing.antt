@@ -17,7 +17,7 @@ use Rattle.laws_mesh.specs.Sides.{Within}
 use Rattle.call_room.specs.declared.kind.Kind.{Kind}
 use Rattle.call_room.specs.Kinds.{schemeOf}
 use Rattle.call_room.proofs.KindLaws.{laws-of}
-use Rattle.links_catmull.specs.Pass.{given, Room}
+use Rattle.links_edits.specs.Held.{given, Room}
 use Rattle.call_steps.specs.Rooms.{needed}
 use Rattle.call_steps.specs.declared.passes.Passed.{Passed}
 use Rattle.call_steps.specs.declared.passes.Passed.the-variants.{On, NoWeightAt}

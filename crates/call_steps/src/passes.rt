@@ -15,7 +15,7 @@ ghost use Rattle.scope.specs.Schemes.{catmull};
 ghost use Rattle.scope.specs.Tally.{countsOf};
 ghost use Rattle.call_room.specs.Kinds.{schemeOf};
 ghost use Rattle.call_room.specs.declared.kind.Kind.the-variants.{Catmull};
-ghost use Rattle.links_catmull.specs.Pass.{given};
+ghost use Rattle.links_edits.specs.Held.{given};
 ghost use Rattle.call_steps.specs.Passing.{PrepareReady, PassReady, Goes, Went, RunReady, Went-on};
 
 // A pass that is done, with the counts after it; or the lowest vertex whose weight is needed and not there.

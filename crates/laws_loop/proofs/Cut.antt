@@ -62,7 +62,7 @@ module _ (m : Links) (g : Good m) (h j : ℕ) (h-in : h < 2 * m .ne) (faced : fa
   next-prev-ne : next m h ≢ prev m h
   next-prev-ne e = g .consistent .three .three-long h h-in faced (ap (next m) e ∙ c .next-prev h h-in)
 
-  across : Across m (next m h) h j
+  pub across : Across m (next m h) h j
   unfolding x
   across = record {
     p-in = c .next-in h h-in;

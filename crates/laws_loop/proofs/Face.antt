@@ -51,25 +51,25 @@ module _ (m : Links) (f x : ℕ) (g : Good m) (x-in : x < 2 * m .ne) (x-face : f
   few-f₁ : m .nf + 1 ≤ 1048576
   few-f₁ = omega arith
 
-  counts₁ : (m₁ .nv ≡ m .nv) × (m₁ .ne ≡ m .ne + 1) × (m₁ .nf ≡ m .nf + 1)
+  pub counts₁ : (m₁ .nv ≡ m .nv) × (m₁ .ne ≡ m .ne + 1) × (m₁ .nf ≡ m .nf + 1)
   counts₁ = cut-counts m g x 3 x-in x-faced len (omega arith) few-e₁ few-f₁
 
-  good₁ : Good m₁
+  pub good₁ : Good m₁
   good₁ = cut-good m g x 3 x-in x-faced len (omega arith) few-e₁ few-f₁
 
   in₁ : at 2 < 2 * m₁ .ne
   in₁ = cut-x-in m g x 3 x-in x-faced len (omega arith) few-e₁ few-f₁
 
-  face₁ : face m₁ (at 2) ≡ m .nf
+  pub face₁ : face m₁ (at 2) ≡ m .nf
   face₁ = cut-x-face m g x 3 x-in x-faced len (omega arith) few-e₁ few-f₁
 
-  faced₁ : face m₁ (at 2) ≢ NONE
+  pub faced₁ : face m₁ (at 2) ≢ NONE
   faced₁ e = let a = face₁ in omega arith
 
-  len₁ : Length (next m₁) (at 2) 5
+  pub len₁ : Length (next m₁) (at 2) 5
   len₁ = cut-rest m g x 3 x-in x-faced len (omega arith) few-e₁ few-f₁
 
-  walk₁ : (i : ℕ) → i ≤ 3 → iter (next m₁) i (at 2) ≡ iter (next m) i (at 2)
+  pub walk₁ : (i : ℕ) → i ≤ 3 → iter (next m₁) i (at 2) ≡ iter (next m) i (at 2)
   walk₁ = cut-walk m g x 3 x-in x-faced len (omega arith) few-e₁ few-f₁
 
   -- the second
@@ -82,13 +82,13 @@ module _ (m : Links) (f x : ℕ) (g : Good m) (x-in : x < 2 * m .ne) (x-face : f
   abbrev n₂ : Links
   n₂ = cutOff (next m₁ (at 2)) (at 2) m₁
 
-  is₂ : m₂ ≡ n₂
+  pub is₂ : m₂ ≡ n₂
   is₂ = ap (λ (y : ℕ). cutOff y (at 2) m₁) (sym (walk₁ 1 (omega arith)))
 
-  counts₂ : (n₂ .nv ≡ m₁ .nv) × (n₂ .ne ≡ m₁ .ne + 1) × (n₂ .nf ≡ m₁ .nf + 1)
+  pub counts₂ : (n₂ .nv ≡ m₁ .nv) × (n₂ .ne ≡ m₁ .ne + 1) × (n₂ .nf ≡ m₁ .nf + 1)
   counts₂ = cut-counts m₁ good₁ (at 2) 2 in₁ faced₁ len₁ (omega arith) few-e₂ few-f₂
 
-  good₂ : Good n₂
+  pub good₂ : Good n₂
   good₂ = cut-good m₁ good₁ (at 2) 2 in₁ faced₁ len₁ (omega arith) few-e₂ few-f₂
 
   at₄ : next m₁ (next m₁ (at 2)) ≡ at 4
@@ -97,16 +97,16 @@ module _ (m : Links) (f x : ℕ) (g : Good m) (x-in : x < 2 * m .ne) (x-face : f
   in₂ : at 4 < 2 * n₂ .ne
   in₂ = subst (λ (y : ℕ). y < 2 * n₂ .ne) at₄ (cut-x-in m₁ good₁ (at 2) 2 in₁ faced₁ len₁ (omega arith) few-e₂ few-f₂)
 
-  face₂ : face n₂ (at 4) ≡ m₁ .nf
+  pub face₂ : face n₂ (at 4) ≡ m₁ .nf
   face₂ = subst (λ (y : ℕ). face n₂ y ≡ m₁ .nf) at₄ (cut-x-face m₁ good₁ (at 2) 2 in₁ faced₁ len₁ (omega arith) few-e₂ few-f₂)
 
   faced₂ : face n₂ (at 4) ≢ NONE
   faced₂ e = let a = face₂ in let (b, c, d) = counts₁ in omega arith
 
-  len₂ : Length (next n₂) (at 4) 4
+  pub len₂ : Length (next n₂) (at 4) 4
   len₂ = subst (λ (y : ℕ). Length (next n₂) y 4) at₄ (cut-rest m₁ good₁ (at 2) 2 in₁ faced₁ len₁ (omega arith) few-e₂ few-f₂)
 
-  next₂ : next n₂ (at 4) ≡ at 5
+  pub next₂ : next n₂ (at 4) ≡ at 5
   next₂ = ap (next n₂) (sym at₄) ∙ cut-walk m₁ good₁ (at 2) 2 in₁ faced₁ len₁ (omega arith) few-e₂ few-f₂ 1 (omega arith) ∙ walk₁ 3 (omega arith)
 
   -- the third

@@ -33,14 +33,14 @@ module _ (m : Links) (g : Good m) (T : Triangles m) (w : Within (loopTally (tall
   few-f = w .f-within
 
   -- after k faces
-  record Partway (t : Links) (k : ℕ) : Type 0 where
-    good : Good t
-    nv-is : t .nv ≡ m .nv + m .ne
-    ne-is : t .ne ≡ 2 * m .ne + 3 * k
-    nf-is : t .nf ≡ m .nf + 3 * k
+  pub record Partway (t : Links) (k : ℕ) : Type 0 where
+    pub good : Good t
+    pub nv-is : t .nv ≡ m .nv + m .ne
+    pub ne-is : t .ne ≡ 2 * m .ne + 3 * k
+    pub nf-is : t .nf ≡ m .nf + 3 * k
     -- the faces to come are of six, as the edge splits left them, and all others of three
-    todo : (h : ℕ) → k ≤ h → h < m .nf → length (loop t (start t h)) ≡ 6
-    done : (h : ℕ) → h < t .nf → (h < k) ⊎ (m .nf ≤ h) → length (loop t (start t h)) ≡ 3
+    pub todo : (h : ℕ) → k ≤ h → h < m .nf → length (loop t (start t h)) ≡ 6
+    pub done : (h : ℕ) → h < t .nf → (h < k) ⊎ (m .nf ≤ h) → length (loop t (start t h)) ≡ 3
 
   at-first : Partway (splitEdges m) 0
   at-first = let h = halved m g few-v (let a = few-e in omega arith) in record {
@@ -82,7 +82,7 @@ module _ (m : Links) (g : Good m) (T : Triangles m) (w : Within (loopTally (tall
         was h q (inl v) = inl (omega arith)
         was h q (inr v) = inr v
 
-  partway : (k : ℕ) → k ≤ m .nf → Partway (each k (loopFace (m .nv)) (splitEdges m)) k
+  pub partway : (k : ℕ) → k ≤ m .nf → Partway (each k (loopFace (m .nv)) (splitEdges m)) k
   unfolding each
   partway zero l = at-first
   partway (suc k) l = one-more (each k (loopFace (m .nv)) (splitEdges m)) k (partway k (omega arith)) l

@@ -9,7 +9,7 @@ use native.Mathlib.Omega.{arith}
 use lib.ListN.{length}
 use Rattle.scope.specs.Lists.{each, if, number-of}
 use Rattle.scope.specs.Links.{Links, NONE, partner, face, head, next, prev, start, rimEdge, loop}
-use Rattle.scope.specs.Passes.{rimFace, centreFace, sqrtFace, sqrtPass}
+use Rattle.scope.specs.Passes.{rimFace, centreFace, sqrtFace, swapInner, sqrtPass}
 use Rattle.scope.specs.Schemes.{two-rims}
 use Rattle.scope.specs.Tally.{tallyOf, sqrtTally}
 use Rattle.laws_mesh.specs.Of.{mesh, Good}
@@ -352,3 +352,40 @@ module _ (m : Links) (g : Good m) (T₀ : Triangles m) where
 pub sqrt-pass : (flag : Bool) (m : Links) → Good m → Triangles m → (flag ≡ true → two-rims m ≡ none) → Within (sqrtTally flag (tallyOf m))
     → Good (sqrtPass flag m) × Triangles (sqrtPass flag m) × (tallyOf (sqrtPass flag m) ≡ sqrtTally flag (tallyOf m))
 sqrt-pass flag m g t one w = (sqrt-good m g t flag one w, sqrt-triangles m g t flag one w, sqrt-tally m g t flag one w)
+
+-- ---- on the way
+-- a good mesh of triangles, with no more of anything than there is after the pass
+pub record Partway (m₀ m : Links) (flag : Bool) (f : ℕ) : Type 0 where
+  pub good : Good m
+  pub tri : Triangular (mesh m)
+  pub nf-is : m .nf ≡ m₀ .nf + 2 * f
+  pub ne-lo : m₀ .ne ≤ m .ne
+  pub v-most : m .nv ≤ sqrtTally flag (tallyOf m₀) .v
+  pub e-most : m .ne ≤ sqrtTally flag (tallyOf m₀) .e
+
+module _ (m : Links) (g : Good m) (T₀ : Triangles m) where
+  pub partway : (flag : Bool) → (flag ≡ true → two-rims m ≡ none) → Within (sqrtTally flag (tallyOf m)) → (f : ℕ) → f ≤ m .nf → Partway m (each f (sqrtFace flag) m) flag f
+  unfolding sqrtTally tallyOf
+  partway false one w f l =
+      let (a, b, c) = room-false m g T₀ w in
+      let s = centres m f l g (tri m g T₀) a b c in
+      record { good = s .spread .good; tri = s .spread .tri; nf-is = s .spread .nf-is; ne-lo = s .spread .ne-lo; v-most = (let q = s .nv-is in omega arith); e-most = (let q = s .ne-is in omega arith) }
+  partway true one w f l =
+      let (a, b, c) = room-true m g T₀ (one refl) w in
+      let r = rims-faces m g T₀ (one refl) in
+      let u = count-up (rimmed m) f (m .nf) l in
+      let s = edges m f l g (tri m g T₀) a b c in
+      record { good = s .spread .good; tri = s .spread .tri; nf-is = s .spread .nf-is; ne-lo = s .spread .ne-lo; v-most = (let q = s .nv-is in omega arith); e-most = (let q = s .ne-is in omega arith) }
+
+  -- while the edges are swapped
+  pub swapping : (flag : Bool) → (flag ≡ true → two-rims m ≡ none) → Within (sqrtTally flag (tallyOf m)) → (e : ℕ) → e ≤ m .ne → Good (each e swapInner (each (m .nf) (sqrtFace flag) m))
+  swapping false one w e l =
+      let (a, b, c) = room-false m g T₀ w in
+      let s = centred m g (tri m g T₀) a b c in
+      turns m (each (m .nf) (sqrtFace false) m) Any (λ t. t < 2 * m .ne) e (λ t q. q) (λ t i p q. tt) l
+      (to-turned m (each (m .nf) (sqrtFace false) m) Any (λ t. t < 2 * m .ne) g (s .spread) (s .inner)) .good
+  swapping true one w e l =
+      let (a, b, c) = room-true m g T₀ (one refl) w in
+      let s = edged m g (tri m g T₀) a b c in
+      turns m (each (m .nf) (sqrtFace true) m) (Two m) Any e (λ t (a, b). (b, λ q. a (ap (face m) (sym (partner-partner t)) ∙ q))) (λ t i p q. (p, q)) l
+      (to-turned m (each (m .nf) (sqrtFace true) m) (Two m) Any g (s .spread) (λ t i q. tt)) .good

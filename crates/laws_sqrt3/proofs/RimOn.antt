@@ -91,32 +91,32 @@ module _ (m : Links) (g : Good m) (f a : ℕ) (T : Triangular (mesh m)) (a-in : 
   abbrev m₂ : Links
   m₂ = split-new a (split-new a m)
 
-  g₁ : Good m₁
-  g₁ = split-new-good m a g a-in (omega arith) (omega arith)
+  pub rim-good₁ : Good m₁
+  rim-good₁ = split-new-good m a g a-in (omega arith) (omega arith)
 
   d₁ : Halved (mesh m) (mesh m₁) a (m .nv) (2 * m .ne)
   d₁ = halved m a g a-in (omega arith) (omega arith)
 
-  n₁ : (m₁ .nv ≡ m .nv + 1) × (m₁ .ne ≡ m .ne + 1) × (m₁ .nf ≡ m .nf)
-  n₁ = split-counts m a g a-in (omega arith) (omega arith)
+  pub rim-counts₁ : (m₁ .nv ≡ m .nv + 1) × (m₁ .ne ≡ m .ne + 1) × (m₁ .nf ≡ m .nf)
+  rim-counts₁ = split-counts m a g a-in (omega arith) (omega arith)
 
-  a-in₁ : a < 2 * m₁ .ne
-  a-in₁ = d₁ .keep-H a a-in
+  pub rim-in₁ : a < 2 * m₁ .ne
+  rim-in₁ = d₁ .keep-H a a-in
 
-  g₂ : Good m₂
-  g₂ = let (x, y, z) = n₁ in split-new-good m₁ a g₁ a-in₁ (omega arith) (omega arith)
+  pub rim-good₂ : Good m₂
+  rim-good₂ = let (x, y, z) = rim-counts₁ in split-new-good m₁ a rim-good₁ rim-in₁ (omega arith) (omega arith)
 
   d₂ : Halved (mesh m₁) (mesh m₂) a (m₁ .nv) (2 * m₁ .ne)
-  d₂ = let (x, y, z) = n₁ in halved m₁ a g₁ a-in₁ (omega arith) (omega arith)
+  d₂ = let (x, y, z) = rim-counts₁ in halved m₁ a rim-good₁ rim-in₁ (omega arith) (omega arith)
 
-  n₂ : (m₂ .nv ≡ m .nv + 2) × (m₂ .ne ≡ m .ne + 2) × (m₂ .nf ≡ m .nf)
-  n₂ =
-      let (x, y, z) = n₁ in
-      let (x′, y′, z′) = split-counts m₁ a g₁ a-in₁ (omega arith) (omega arith) in
+  pub rim-counts₂ : (m₂ .nv ≡ m .nv + 2) × (m₂ .ne ≡ m .ne + 2) × (m₂ .nf ≡ m .nf)
+  rim-counts₂ =
+      let (x, y, z) = rim-counts₁ in
+      let (x′, y′, z′) = split-counts m₁ a rim-good₁ rim-in₁ (omega arith) (omega arith) in
       (omega arith, omega arith, omega arith)
 
   C₂ : Core (mesh m₂)
-  C₂ = g₂ .consistent .core
+  C₂ = rim-good₂ .consistent .core
 
   abbrev i₀ : ℕ
   i₀ = 2 * m .ne
@@ -140,11 +140,11 @@ module _ (m : Links) (g : Good m) (f a : ℕ) (T : Triangular (mesh m)) (a-in : 
   s-0 : next m₂ i₀ ≡ i₂
   s-0 = rim-n₂-i₀ S K w d₁ d₂
 
-  s-1 : next m₂ (next m₂ i₀) ≡ a
-  s-1 = ap (next m₂) s-0 ∙ rim-n₂-i₂ S K w d₁ d₂
+  pub rim-second : next m₂ (next m₂ i₀) ≡ a
+  rim-second = ap (next m₂) s-0 ∙ rim-n₂-i₂ S K w d₁ d₂
 
   s-2 : next m₂ (next m₂ (next m₂ i₀)) ≡ b
-  s-2 = ap (next m₂) s-1 ∙ rim-n₂-a S K w d₁ d₂
+  s-2 = ap (next m₂) rim-second ∙ rim-n₂-a S K w d₁ d₂
 
   b≢i₂ : i₂ ≢ b
   b≢i₂ e = rim-old₂ S K w d₁ d₂ b b-in .2 (sym e)
@@ -153,8 +153,8 @@ module _ (m : Links) (g : Good m) (f a : ℕ) (T : Triangular (mesh m)) (a-in : 
   abbrev m₃ : Links
   m₃ = cutOff (2 * m .ne) (prev m₂ (2 * m .ne)) m₂
 
-  over₂ : Across m₂ i₀ (prev m₂ i₀) 2
-  over₂ = record {
+  pub rim-over₂ : Across m₂ i₀ (prev m₂ i₀) 2
+  rim-over₂ = record {
     p-in = i₀-in;
     n-in = C₂ .prev-in i₀ i₀-in;
     faced = λ z. faced (sym (rim-f₂-i₀ S K w d₁ d₂) ∙ z);
@@ -165,7 +165,7 @@ module _ (m : Links) (g : Good m) (f a : ℕ) (T : Triangular (mesh m)) (a-in : 
     where
       early : (i : ℕ) → i < 2 → iter (next m₂) i (next m₂ i₀) ≢ prev m₂ (prev m₂ i₀)
       early zero l e = b≢i₂ (sym s-0 ∙ e ∙ before-c)
-      early (suc zero) l e = rim-a≢b S K w (sym s-1 ∙ e ∙ before-c)
+      early (suc zero) l e = rim-a≢b S K w (sym rim-second ∙ e ∙ before-c)
       early (suc (suc i)) l e = absurd (let q : suc (suc i) < 2 = l in omega arith)
 
   M₃ : ℕ → Type 0
@@ -173,35 +173,35 @@ module _ (m : Links) (g : Good m) (f a : ℕ) (T : Triangular (mesh m)) (a-in : 
 
   d₃ : InsertEdge (mesh m₂) (mesh m₃) i₀ b (2 * m₂ .ne + 1) (m₂ .nf) M₃
   unfolding M₃
-  d₃ = let (x, y, z) = n₂ in
-      subst (λ (y : ℕ). InsertEdge (mesh m₂) (mesh m₃) i₀ y (2 * m₂ .ne + 1) (m₂ .nf) (Part (next m₂) (next m₂ i₀) 2)) before-c (cut-off-is m₂ g₂ i₀ (prev m₂ i₀) 2 over₂ (omega arith) (omega arith))
+  d₃ = let (x, y, z) = rim-counts₂ in
+      subst (λ (y : ℕ). InsertEdge (mesh m₂) (mesh m₃) i₀ y (2 * m₂ .ne + 1) (m₂ .nf) (Part (next m₂) (next m₂ i₀) 2)) before-c (cut-off-is m₂ rim-good₂ i₀ (prev m₂ i₀) 2 rim-over₂ (omega arith) (omega arith))
 
-  g₃ : Good m₃
-  g₃ = let (x, y, z) = n₂ in cut-off-good m₂ g₂ i₀ (prev m₂ i₀) 2 over₂ (omega arith) (omega arith) (λ e. b≢i₂ (sym s-0 ∙ e ∙ before-c)) (λ e. rim-old₂ S K w d₁ d₂ c c-in .0 (sym before-i₀ ∙ e))
+  pub rim-good₃ : Good m₃
+  rim-good₃ = let (x, y, z) = rim-counts₂ in cut-off-good m₂ rim-good₂ i₀ (prev m₂ i₀) 2 rim-over₂ (omega arith) (omega arith) (λ e. b≢i₂ (sym s-0 ∙ e ∙ before-c)) (λ e. rim-old₂ S K w d₁ d₂ c c-in .0 (sym before-i₀ ∙ e))
 
-  n₃ : (m₃ .nv ≡ m .nv + 2) × (m₃ .ne ≡ m .ne + 3) × (m₃ .nf ≡ m .nf + 1)
-  n₃ =
-      let (x, y, z) = n₂ in
-      let (x′, y′, z′) = cut-off-counts m₂ g₂ i₀ (prev m₂ i₀) 2 over₂ (omega arith) (omega arith) in
+  pub rim-counts₃ : (m₃ .nv ≡ m .nv + 2) × (m₃ .ne ≡ m .ne + 3) × (m₃ .nf ≡ m .nf + 1)
+  rim-counts₃ =
+      let (x, y, z) = rim-counts₂ in
+      let (x′, y′, z′) = cut-off-counts m₂ rim-good₂ i₀ (prev m₂ i₀) 2 rim-over₂ (omega arith) (omega arith) in
       (omega arith, omega arith, omega arith)
 
   only₃ : (t : ℕ) → M₃ t → (t ≡ i₂) ⊎ ((t ≡ a) ⊎ (t ≡ b))
   unfolding Part M₃
   only₃ t (zero, l, e) = inl (sym e ∙ s-0)
-  only₃ t (suc zero, l, e) = inr (inl (sym e ∙ s-1))
+  only₃ t (suc zero, l, e) = inr (inl (sym e ∙ rim-second))
   only₃ t (suc (suc zero), l, e) = inr (inr (sym e ∙ s-2))
   only₃ t (suc (suc (suc j)), l, e) = absurd (let z : suc (suc (suc j)) ≤ 2 = l in omega arith)
 
   in₃ : M₃ a
   unfolding Part M₃
-  in₃ = (1, omega arith, s-1)
+  in₃ = (1, omega arith, rim-second)
 
   -- ---- the second
   abbrev j₅ : ℕ
   j₅ = 2 * split-new a (split-new a m) .ne + 1
 
   C₃ : Core (mesh m₃)
-  C₃ = g₃ .consistent .core
+  C₃ = rim-good₃ .consistent .core
 
   n₃-a : next m₃ a ≡ b
   n₃-a = rim-n₃-a S K w d₁ d₂ d₃
@@ -224,11 +224,11 @@ module _ (m : Links) (g : Good m) (f a : ℕ) (T : Triangular (mesh m)) (a-in : 
   abbrev m₄ : Links
   m₄ = cutOff (next m₃ a) a m₃
 
-  over₃ : Across m₃ (next m₃ a) a 1
-  over₃ = record {
+  pub rim-over₃ : Across m₃ (next m₃ a) a 1
+  rim-over₃ = record {
     p-in = C₃ .next-in a a-in₃;
     n-in = a-in₃;
-    faced = λ z. good-shape m₃ g₃ .F-none (m₂ .nf) (let (x, y, z) = n₃ in let (x′, y′, z′) = n₂ in omega arith) (sym (rim-f₃-b S K w d₁ d₂ d₃) ∙ ap (face m₃) (sym n₃-a) ∙ z);
+    faced = λ z. good-shape m₃ rim-good₃ .F-none (m₂ .nf) (let (x, y, z) = rim-counts₃ in let (x′, y′, z′) = rim-counts₂ in omega arith) (sym (rim-f₃-b S K w d₁ d₂ d₃) ∙ ap (face m₃) (sym n₃-a) ∙ z);
     apart = λ e. b≢i₂ (sym (sym n₃-a ∙ e ∙ before-a));
     meets = ap (λ (t : ℕ). next m₃ (next m₃ t)) n₃-a ∙ t-1 ∙ sym before-a;
     first = early;
@@ -243,17 +243,17 @@ module _ (m : Links) (g : Good m) (f a : ℕ) (T : Triangular (mesh m)) (a-in : 
 
   d₄ : InsertEdge (mesh m₃) (mesh m₄) b i₂ (2 * m₃ .ne + 1) (m₃ .nf) M₄
   unfolding M₄
-  d₄ = let (x, y, z) = n₃ in
+  d₄ = let (x, y, z) = rim-counts₃ in
       subst (λ (p : ℕ). InsertEdge (mesh m₃) (mesh m₄) p i₂ (2 * m₃ .ne + 1) (m₃ .nf) (Part (next m₃) (next m₃ p) 1)) n₃-a
-      (subst (λ (y : ℕ). InsertEdge (mesh m₃) (mesh m₄) (next m₃ a) y (2 * m₃ .ne + 1) (m₃ .nf) (Part (next m₃) (next m₃ (next m₃ a)) 1)) before-a (cut-off-is m₃ g₃ (next m₃ a) a 1 over₃ (omega arith) (omega arith)))
+      (subst (λ (y : ℕ). InsertEdge (mesh m₃) (mesh m₄) (next m₃ a) y (2 * m₃ .ne + 1) (m₃ .nf) (Part (next m₃) (next m₃ (next m₃ a)) 1)) before-a (cut-off-is m₃ rim-good₃ (next m₃ a) a 1 rim-over₃ (omega arith) (omega arith)))
 
   g₄ : Good m₄
-  g₄ = let (x, y, z) = n₃ in cut-off-good m₃ g₃ (next m₃ a) a 1 over₃ (omega arith) (omega arith) (λ e. j₅≢i₂ (sym t-0 ∙ ap (next m₃) (sym n₃-a) ∙ e ∙ before-a)) (λ e. rim-a≢b S K w (e ∙ n₃-a))
+  g₄ = let (x, y, z) = rim-counts₃ in cut-off-good m₃ rim-good₃ (next m₃ a) a 1 rim-over₃ (omega arith) (omega arith) (λ e. j₅≢i₂ (sym t-0 ∙ ap (next m₃) (sym n₃-a) ∙ e ∙ before-a)) (λ e. rim-a≢b S K w (e ∙ n₃-a))
 
   n₄ : (m₄ .nv ≡ m .nv + 2) × (m₄ .ne ≡ m .ne + 4) × (m₄ .nf ≡ m .nf + 2)
   n₄ =
-      let (x, y, z) = n₃ in
-      let (x′, y′, z′) = cut-off-counts m₃ g₃ (next m₃ a) a 1 over₃ (omega arith) (omega arith) in
+      let (x, y, z) = rim-counts₃ in
+      let (x′, y′, z′) = cut-off-counts m₃ rim-good₃ (next m₃ a) a 1 rim-over₃ (omega arith) (omega arith) in
       (omega arith, omega arith, omega arith)
 
   only₄ : (t : ℕ) → M₄ t → (t ≡ j₅) ⊎ (t ≡ i₂)
@@ -341,11 +341,11 @@ module _ (m : Links) (g : Good m) (f a : ℕ) (T : Triangular (mesh m)) (a-in : 
 
   starts : (h : ℕ) → h < m .nf → h ≢ f → start m₄ h ≡ start m h
   starts h i e =
-      let (x₂, y₂, z₂) = n₂ in
-      let (x₃, y₃, z₃) = n₃ in
-      cut-off-start-old m₃ g₃ (next m₃ a) a 1 over₃ (omega arith) (omega arith) h (omega arith)
+      let (x₂, y₂, z₂) = rim-counts₂ in
+      let (x₃, y₃, z₃) = rim-counts₃ in
+      cut-off-start-old m₃ rim-good₃ (next m₃ a) a 1 rim-over₃ (omega arith) (omega arith) h (omega arith)
       (λ q. (let w : face m₃ (next m₃ a) ≡ m₂ .nf = ap (face m₃) n₃-a ∙ rim-f₃-b S K w d₁ d₂ d₃ in omega arith))
-      ∙ cut-off-start-old m₂ g₂ i₀ (prev m₂ i₀) 2 over₂ (omega arith) (omega arith) h (omega arith) (λ q. e (q ∙ rim-f₂-i₀ S K w d₁ d₂ ∙ a-face))
+      ∙ cut-off-start-old m₂ rim-good₂ i₀ (prev m₂ i₀) 2 rim-over₂ (omega arith) (omega arith) h (omega arith) (λ q. e (q ∙ rim-f₂-i₀ S K w d₁ d₂ ∙ a-face))
       ∙ start₂ h
 
   opened : Opened m m₄ f Two
@@ -371,16 +371,16 @@ module _ (m : Links) (g : Good m) (f a : ℕ) (T : Triangular (mesh m)) (a-in : 
       kept u (inr p) = p
 
       lo₂ : m .nf ≤ m₂ .nf
-      lo₂ = let (x, y, z) = n₂ in omega arith
+      lo₂ = let (x, y, z) = rim-counts₂ in omega arith
 
       lo₃ : m .nf ≤ m₃ .nf
-      lo₃ = let (x, y, z) = n₃ in omega arith
+      lo₃ = let (x, y, z) = rim-counts₃ in omega arith
 
       hi : {y z : ℕ} → y ≡ z → m .nf ≤ z → m .nf ≤ y
       hi e l = subst⁻¹ (λ (v : ℕ). m .nf ≤ v) e l
 
       few : m₂ .nf ≢ NONE
-      few e = let (x, y, z) = n₂ in omega arith
+      few e = let (x, y, z) = rim-counts₂ in omega arith
 
       to-face : (u : ℕ) → (u ≡ a) ⊎ ((u ≡ b) ⊎ (u ≡ c)) → (face m₄ u ≡ f) ⊎ ((m .nf ≤ face m₄ u) × (face m₄ u ≢ NONE))
       to-face u (inl z) = let e = ap (face m₄) z ∙ x .face-a in inr (hi e lo₂, λ p. few (sym e ∙ p))
@@ -392,7 +392,7 @@ module _ (m : Links) (g : Good m) (f a : ℕ) (T : Triangular (mesh m)) (a-in : 
 
       to-tip : (u : ℕ) → face m (partner u) ≢ NONE → (u ≡ a) ⊎ ((u ≡ b) ⊎ (u ≡ c)) → m .nv ≤ head m₄ (next m₄ u)
       to-tip u p (inl z) = absurd (p (ap (λ (t : ℕ). face m (partner t)) z ∙ across))
-      to-tip u p (inr (inl z)) = at-v u _ _ (ap (next m₄) z ∙ x .next-b) (x .head-k₇) (let (x, y, z) = n₁ in omega arith)
+      to-tip u p (inr (inl z)) = at-v u _ _ (ap (next m₄) z ∙ x .next-b) (x .head-k₇) (let (x, y, z) = rim-counts₁ in omega arith)
       to-tip u p (inr (inr z)) = at-v u _ _ (ap (next m₄) z ∙ x .next-c) (x .head-i₀) (omega arith)
 
   pub rim-opened : Opened m (rimFace a m) f (λ u. (face m u ≢ NONE) × (face m (partner u) ≢ NONE))

@@ -93,7 +93,7 @@ module _ (m : Links) (g : Good m) (f : ℕ) (f-in : f < m .nf) (k : ℕ) (long :
   ax : next m a ≡ x
   ax = sym (C .prev-next (next m a) x₀-in)
 
-  p-face : face m p ≡ f
+  pub p-face : face m p ≡ f
   p-face = prev-face S C a a-in ∙ C .start-bears f f-in
 
   faced : face m p ≢ NONE
@@ -102,7 +102,7 @@ module _ (m : Links) (g : Good m) (f : ℕ) (f-in : f < m .nf) (k : ℕ) (long :
   a≢x : a ≢ x
   a≢x e = next-ne S C a a-in (ax ∙ sym e)
 
-  across : Across m p n 1
+  pub across : Across m p n 1
   across = record {
     p-in = p-in;
     n-in = C .next-in (next m a) x₀-in;

@@ -35,7 +35,7 @@ pub record Cutted (m₀ m : Links) (f l j : ℕ) : Type 0 where
   pub back : (t : ℕ) → t < 2 * m .ne → face m t ≢ f → (face m t < m₀ .nf) ⊎ (face m t ≡ NONE) → (t < 2 * m₀ .ne) × (face m₀ t ≢ f)
   pub tri : (t : ℕ) → t < 2 * m .ne → m₀ .nf ≤ face m t → face m t < m .nf → next m (next m (next m t)) ≡ t
 
-cutted-none : (m : Links) (f l : ℕ) → Good m → ((t : ℕ) → t < 2 * m .ne → face m t ≡ f → Length (next m) t l) → Cutted m m f l 0
+pub cutted-none : (m : Links) (f l : ℕ) → Good m → ((t : ℕ) → t < 2 * m .ne → face m t ≡ f → Length (next m) t l) → Cutted m m f l 0
 cutted-none m f l g lens = record {
   good = g;
   nv-is = refl;
@@ -93,7 +93,7 @@ module _ (m₀ m m′ : Links) (f l j : ℕ) (f₀ : f < m₀ .nf) (s : Cutted m
           go (inr q) = q
 
 -- j corners of face f
-cuts : (m : Links) (f l j : ℕ) → f < m .nf → Cutted m m f l 0 → j + 3 ≤ l → m .ne + l ≤ 1048576 + 3 → m .nf + l ≤ 1048576 + 3 → Cutted m (each j (λ i. cutCorner f) m) f l j
+pub cuts : (m : Links) (f l j : ℕ) → f < m .nf → Cutted m m f l 0 → j + 3 ≤ l → m .ne + l ≤ 1048576 + 3 → m .nf + l ≤ 1048576 + 3 → Cutted m (each j (λ i. cutCorner f) m) f l j
 unfolding each
 cuts m f l zero f₀ s h e g = s
 cuts m f l (suc j) f₀ s h e g = go (cuts m f l j f₀ s (omega arith) e g)
@@ -236,11 +236,12 @@ module _ (m : Links) (g : Good m) (w : Within (triangulated (tallyOf m))) where
       let b : S - 2 * m .nf ≤ 1048576 = w .f-within in
       (omega arith, omega arith)
 
-  trimmed : Trimmed m (triangulate m) (m .nf)
-  unfolding triangulate sum
-  trimmed =
+  -- after the first f faces
+  pub trims-to : (f : ℕ) → f ≤ m .nf → Trimmed m (each f triangulateFace m) f
+  unfolding sum
+  trims-to f l =
       let q = few in
-      trims m (m .nf) (omega arith) (record {
+      trims m f l (record {
         good = g;
         nv-is = refl;
         ne-is = omega arith;
@@ -254,6 +255,24 @@ module _ (m : Links) (g : Good m) (w : Within (triangulated (tallyOf m))) where
       none-yet t ne (inl q) p = not-suc-le-zero q
       none-yet t ne (inr q) (inl p) = ne p
       none-yet t ne (inr q) (inr p) = omega arith
+
+  -- the triangles of face f are within what all of them come to
+  pub trim-room : (f : ℕ) → f < m .nf
+      → (each f triangulateFace m .ne + length (loop (each f triangulateFace m) (start (each f triangulateFace m) f)) ≤ triangulated (tallyOf m) .e + 3)
+      × (each f triangulateFace m .nf + length (loop (each f triangulateFace m) (start (each f triangulateFace m) f)) ≤ triangulated (tallyOf m) .f + 3)
+  unfolding sum triangulated tallyOf
+  trim-room f l =
+      let s = trims-to f (omega arith) in
+      let a = s .ne-is in
+      let b = s .nf-is in
+      let d = same m (each f triangulateFace m) f s l three (few .0) (let z = few .1 in omega arith) in
+      let q = sum-three (λ i. length (loop m (start m i))) (suc f) (m .nf) l three in
+      let n = enough in
+      (omega arith, omega arith)
+
+  trimmed : Trimmed m (triangulate m) (m .nf)
+  unfolding triangulate
+  trimmed = trims-to (m .nf) (omega arith)
 
   pub triangulate-good : Good (triangulate m)
   triangulate-good = trimmed .good

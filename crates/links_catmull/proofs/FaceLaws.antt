@@ -24,7 +24,7 @@ use Rattle.mesh.proofs.SliceLaws.{getD-lay, length-lay}
 use Rattle.mesh.proofs.PartnerLaws.{partner-lt}
 use Rattle.mesh.proofs.RoundLaws.{Agree, agree-lay, agree-next, walk-next, loop-is}
 use Rattle.links_edits.specs.Held.{held, laid}
-use Rattle.links_edits.proofs.StoreLaws.{held-is, put-lay}
+use Rattle.links_edits.proofs.StoreLaws.{held-is, links-is, put-lay}
 use Rattle.links_edits.proofs.PetalLaws.{Touched, petal-laid, petal-laid-ok}
 use Rattle.links_catmull.specs.Steps.{PartOk, FanOk, FanReady, parts, FaceOk}
 use Rattle.links_catmull.proofs.StepLaws.{walked, petals-same, face-by}
@@ -97,13 +97,6 @@ module _ {t : Links} {f c n : ℕ} {part : ℕ → Part} (g : Given (mesh t .isH
 -- ---- the whole face
 either-is : (b : Bool) {x y x′ y′ : ℕ} → x ≡ x′ → y ≡ y′ → if b x y ≡ if b x′ y′
 either-is b p q = rw (p, q)
-
-links-is : (l k : Links) → l .nv ≡ k .nv → l .ne ≡ k .ne → l .nf ≡ k .nf → l .outs ≡ k .outs → l .edges ≡ k .edges → l .faces ≡ k .faces → l ≡ k
-links-is l k a b c x y z =
-    ap (λ (v : ℕ). held v (l .ne) (l .nf) (l .outs) (l .edges) (l .faces)) a
-    ∙ ap (λ (e : ℕ). held (k .nv) e (l .nf) (l .outs) (l .edges) (l .faces)) b
-    ∙ ap (λ (f : ℕ). held (k .nv) (k .ne) f (l .outs) (l .edges) (l .faces)) c
-    ∙ held-is x y z
 
 from-first : (old f : ℕ) (m : Links) → fromOld old f m ≡ loop m (first-old old f m)
 unfolding fromOld first-old

@@ -1,4 +1,3 @@
 pub mod StepLaws
 pub mod FaceLaws
 pub mod PassLaws
-pub mod ReadyLaws

@@ -13,12 +13,12 @@ use Rattle.laws_mesh.specs.Of.{Good}
 use Rattle.laws_mesh.specs.Sides.{Within}
 use Rattle.laws_mesh.proofs.SplitEdges.{Halfway, halved}
 use Rattle.laws_catmull.proofs.Pass.{L, Partway, partway, len, k-in, most-v, most-e, most-f, room-v, room-e, room-f}
-use Rattle.links_edits.specs.Held.{held, laid}
+use Rattle.links_edits.specs.Held.{held, laid, given, Room}
 use Rattle.links_edits.proofs.StoreLaws.{held-is}
 use Rattle.links_split.specs.Splits.{SplitsOk}
 use Rattle.links_split.proofs.SplitsLaws.{splits-ok, splits-leave}
 use Rattle.links_catmull.specs.Steps.{FaceOk, FacesOk}
-use Rattle.links_catmull.specs.Pass.{given, Room, Ready}
+use Rattle.links_catmull.specs.Pass.{Ready}
 use Rattle.links_catmull.proofs.FaceLaws.{face-laid-ok, face-laid}
 
 module _ (m : Links) (g : Good m) (w : Within (catmullTally (tallyOf m))) (outs edges faces : List ℕ) (r : Room (catmullTally (tallyOf m)) outs edges faces) where

@@ -11,13 +11,12 @@ use Rattle.scope.specs.Passes.{pairs, fromOld, catmullFace}
 use Rattle.laws_mesh.proofs.Loops.{steps}
 use Rattle.laws_mesh.proofs.LoopParts.{pairs-length}
 use Rattle.laws_mesh.proofs.FromOld.{first-old}
-use Rattle.mesh.specs.Words.{headAt, nextAt, linkAt, Has}
+use Rattle.mesh.specs.Words.{nextAt, Has}
 use Rattle.mesh.specs.Rounds.{Walk, loopAt}
 use Rattle.mesh.proofs.SliceLaws.{set-put}
 use Rattle.links_edits.specs.Petal.{PetalOk}
-use borrow.Author.Tests.{lt-ltb, le-ltb}
 use Rattle.links_edits.specs.Held.{held}
-use Rattle.links_edits.proofs.StoreLaws.{held-is}
+use Rattle.links_edits.proofs.PetalLaws.{petal-held}
 use Rattle.links_catmull.specs.Steps.{PartOk, FanOk, FanReady, parts, FaceOk}
 
 each-on : {A : Type 0} (n : ℕ) (step : ℕ → A → A) (a : A) → step n (each n step a) ≡ each (suc n) step a
@@ -65,12 +64,6 @@ module _ {nx : ℕ → ℕ} {c e n i g k a : ℕ} {t w : Links} (d : Fanning nx 
     pub fan-on : Fanning nx c e n (suc i) k (suc k) (nx (nx a)) (petal c (2 * (e + i) + 1) (2 * (e + (suc i % n))) (pair nx a g) t) w
     unfolding petals
     fan-on = record { ready = ready .1; whole = whole }
-
--- a petal on slices
-pub petal-held : (c o s : ℕ) (q : Part) (edges faces : List ℕ) {edges′ faces′ : List ℕ} → edges′ ≡ petal c o s q (held 0 0 0 [] edges faces) .edges → faces′ ≡ petal c o s q (held 0 0 0 [] edges faces) .faces
-    → petal c o s q (held 0 0 0 [] edges faces) ≡ held 0 0 0 [] edges′ faces′
-unfolding petal
-petal-held c o s q edges faces a b = held-is refl (sym a) (sym b)
 
 -- the first part is next
 pub fan-start : {nx : ℕ → ℕ} {c e n f a : ℕ} (g : ℕ) {t : Links} → FanOk nx c e n 0 (pairs f g (steps nx a (2 * n))) t
@@ -182,16 +175,6 @@ module _ (old f : ℕ) (m : Links) (even : fromOld old f m ≡ steps (next m) (f
         ne-is = (let u = ap (λ (t : Links). t .ne) is in omega arith);
         nf-is = (let u = ap (λ (t : Links). t .nf) is in omega arith);
       }
-
--- the first halfedge whose head is old, as the code reads it
-module _ (es fs : List ℕ) (old f : ℕ) {s v : ℕ} (p : s ≡ linkAt fs f) (q : v ≡ headAt es s) where
-  pub old-here : v < old → s ≡ first-old old f (held 0 0 0 [] es fs)
-  unfolding first-old
-  old-here l = rw (sym p, sym q, lt-ltb v old l)
-
-  pub old-next : old ≤ v → {r : ℕ} → r ≡ nextAt es s → r ≡ first-old old f (held 0 0 0 [] es fs)
-  unfolding first-old
-  old-next l e = rw (sym p, sym q, le-ltb v old l) e
 
 -- a face as the code does it: a is where it starts, l the length of its loop
 module _ {old f : ℕ} {m : Links} (k : FaceOk old f m) {a : ℕ} (p : a ≡ first-old old f (held 0 0 0 [] (m .edges) (m .faces))) where

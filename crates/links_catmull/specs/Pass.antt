@@ -1,25 +1,14 @@
 -- What the links of a Catmull-Clark pass ask of the slices: a good mesh and then zeros, and room for the mesh after the pass. Assumes nothing.
-use Prim.Native.Nat.{ℕ, _*_, _≤_}
+use Prim.Native.Nat.{ℕ, _*_}
 use mathlib.Core.Path.{_≡_}
 use mathlib.Core.List.{List}
-use lib.ListN.{length, take}
+use lib.ListN.{take}
 use Rattle.scope.specs.declared.records.Counts.{Counts}
 use Rattle.scope.specs.Lists.{lay}
-use Rattle.scope.specs.Links.{Links}
-use Rattle.scope.specs.Tally.{Tally, tallyOf, catmullTally}
+use Rattle.scope.specs.Tally.{tallyOf, catmullTally}
 use Rattle.laws_mesh.specs.Of.{Good}
 use Rattle.laws_mesh.specs.Sides.{Within}
-use Rattle.links_edits.specs.Held.{held}
-
--- the mesh in slices, as much of each as the counts say
-abbrev pub given : Counts → List ℕ → List ℕ → List ℕ → Links
-given c outs edges faces = held (c .v) (c .e) (c .f) (take (c .v) outs) (take (8 * c .e) edges) (take (c .f) faces)
-
--- slices of these lengths have room for so many
-pub record Room (t : Tally) (outs edges faces : List ℕ) : Type 0 where
-  pub for-v : t .v ≤ length outs
-  pub for-e : 8 * t .e ≤ length edges
-  pub for-f : t .f ≤ length faces
+use Rattle.links_edits.specs.Held.{given, Room}
 
 pub record Ready (c : Counts) (outs edges faces : List ℕ) : Type 0 where
   pub good : Good (given c outs edges faces)

@@ -2,10 +2,9 @@
 
 use links_edits::petal::Slice;
 use links_edits::petal::petal;
-use mesh::half::head;
+use links_split::first_old;
 use mesh::half::next;
 use mesh::rows::set_out;
-use mesh::rows::start;
 use mesh_walk::lengths::loop_length;
 use scope::records::Counts;
 ghost use mathlib.Core.Path.{_≡_};
@@ -18,8 +17,7 @@ ghost use Rattle.scope.specs.Edits.{petals};
 ghost use Rattle.scope.specs.Passes.{pairs, fromOld, catmullFace};
 ghost use Rattle.scope.specs.Tally.{countsOf};
 ghost use Rattle.laws_mesh.proofs.Loops.{steps};
-ghost use Rattle.laws_mesh.proofs.FromOld.{first-old};
-ghost use Rattle.mesh.specs.Words.{nextAt, linkAt, Has};
+ghost use Rattle.mesh.specs.Words.{nextAt};
 ghost use Rattle.links_edits.specs.Held.{held};
 ghost use Rattle.links_catmull.specs.Steps.{FanReady, FaceOk, FacesOk};
 
@@ -29,19 +27,6 @@ fn after(i: u32, n: u32) -> u32
     ensures { λ r. ⌜ r ≡ suc i % n ⌝ }
 {
     if i + 1 == n { 0 } else { i + 1 }
-}
-
-// Of the first two halfedges of face f the one whose head is an old vertex.
-fn first_old(edges: &[u32], faces: &[u32], old: u32, f: u32) -> u32
-    requires { ⌜ f < length (now faces) ⌝ }
-    requires { ⌜ Has (now edges) (linkAt (now faces) f) ⌝ }
-    ensures { λ r. ⌜ r ≡ first-old old f (held 0 0 0 [] (now (edges .entry)) (now (faces .entry))) ⌝ }
-{
-    let s = start(faces, f);
-    if head(edges, s) < old {
-        return s;
-    }
-    next(edges, s)
 }
 
 // The loop from a, 2n halfedges, becomes n faces around the centre c: the first is f, the others are new, from g on. The spokes are the edges from e on.

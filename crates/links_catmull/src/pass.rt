@@ -8,7 +8,8 @@ ghost use Rattle.scope.specs.Lists.{lay};
 ghost use Rattle.scope.specs.Links.{Links};
 ghost use Rattle.scope.specs.Passes.{catmullPass};
 ghost use Rattle.scope.specs.Tally.{countsOf};
-ghost use Rattle.links_catmull.specs.Pass.{given, Ready};
+ghost use Rattle.links_edits.specs.Held.{given};
+ghost use Rattle.links_catmull.specs.Pass.{Ready};
 
 // The mesh that the slices hold, after one pass, in the same slices; answers its counts.
 pub fn catmull_links(outs: &mut [u32], edges: &mut [u32], faces: &mut [u32], c: Counts) -> Counts

@@ -1,3 +1,10 @@
 pub mod StoreLaws
+pub mod HeldLaws
 pub mod SplitLaws
 pub mod PetalLaws
+pub mod SwapLaws
+pub mod RingLaws
+pub mod CutLaws
+pub mod AcrossLaws
+pub mod GapLaws
+pub mod FoldLaws

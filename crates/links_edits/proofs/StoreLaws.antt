@@ -1,12 +1,14 @@
 -- Runs of stores: in a slice that is long enough they are those in a list that grows, and they keep what a slice holds. Assumes nothing.
-use Prim.Native.Nat.{ℕ, _*_, _≤_, _<_}
+use Prim.Native.Nat.{ℕ, zero, suc, _*_, _≤_, _<_}
 use mathlib.Core.Path.{_≡_, refl, sym, ap, _∙_}
+use mathlib.Core.Logic.{_≢_}
 use mathlib.Core.List.{List, [], _∷_}
 use native.Mathlib.Omega.{arith}
 use lib.ListN.{length, set, length-set}
 use Rattle.scope.specs.Lists.{put, lay}
 use Rattle.laws_mesh.proofs.Stores.{Word, face, head, next, prev, slot, Store, store, stores, Below}
 use Rattle.mesh.proofs.SliceLaws.{set-put, set-lay, length-lay}
+use Rattle.scope.specs.Links.{Links}
 use Rattle.links_edits.specs.Held.{held}
 
 -- the same run in a slice
@@ -41,7 +43,33 @@ stores-lay n l old (store w h x ∷ r) b (a, c) =
     ap (λ (t : List ℕ). put t (slot w h) x) (stores-lay n l old r b c)
     ∙ put-lay (stores l r) old (slot w h) x (let p = slot-lt w h n a in omega arith)
 
+-- two stores in a list that grows: to one place, and to two
+pub put-put : (l : List ℕ) (i x y : ℕ) → put (put l i x) i y ≡ put l i y
+unfolding put
+put-put [] zero x y = refl
+put-put [] (suc i) x y = ap {B = List ℕ} (λ r. 0 ∷ r) (put-put [] i x y)
+put-put (z ∷ l) zero x y = refl
+put-put (z ∷ l) (suc i) x y = ap {B = List ℕ} (λ r. z ∷ r) (put-put l i x y)
+
+pub put-swap : (l : List ℕ) (i j x y : ℕ) → i ≢ j → put (put l i x) j y ≡ put (put l j y) i x
+unfolding put
+put-swap [] zero zero x y n = absurd (n refl)
+put-swap [] zero (suc j) x y n = refl
+put-swap [] (suc i) zero x y n = refl
+put-swap [] (suc i) (suc j) x y n = ap {B = List ℕ} (λ r. 0 ∷ r) (put-swap [] i j x y (λ e. n (ap suc e)))
+put-swap (z ∷ l) zero zero x y n = absurd (n refl)
+put-swap (z ∷ l) zero (suc j) x y n = refl
+put-swap (z ∷ l) (suc i) zero x y n = refl
+put-swap (z ∷ l) (suc i) (suc j) x y n = ap {B = List ℕ} (λ r. z ∷ r) (put-swap l i j x y (λ e. n (ap suc e)))
+
 -- links with the same lists
 pub held-is : {v e f : ℕ} {outs outs′ edges edges′ faces faces′ : List ℕ} → outs ≡ outs′ → edges ≡ edges′ → faces ≡ faces′ → held v e f outs edges faces ≡ held v e f outs′ edges′ faces′
 held-is {v} {e} {f} {outs} {outs′} {edges} {edges′} {faces} {faces′} a b c =
     ap (λ (l : List ℕ). held v e f l edges faces) a ∙ ap (λ (l : List ℕ). held v e f outs′ l faces) b ∙ ap (λ (l : List ℕ). held v e f outs′ edges′ l) c
+
+pub links-is : (l k : Links) → l .nv ≡ k .nv → l .ne ≡ k .ne → l .nf ≡ k .nf → l .outs ≡ k .outs → l .edges ≡ k .edges → l .faces ≡ k .faces → l ≡ k
+links-is l k a b c x y z =
+    ap (λ (v : ℕ). held v (l .ne) (l .nf) (l .outs) (l .edges) (l .faces)) a
+    ∙ ap (λ (e : ℕ). held (k .nv) e (l .nf) (l .outs) (l .edges) (l .faces)) b
+    ∙ ap (λ (f : ℕ). held (k .nv) (k .ne) f (l .outs) (l .edges) (l .faces)) c
+    ∙ held-is x y z

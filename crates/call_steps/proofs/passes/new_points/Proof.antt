@@ -1,7 +1,7 @@
 use mathlib.Core.Path.{sym}
 use native.Mathlib.Omega.{arith}
 use Rattle.call_steps.proofs.PassLaws.{good, halves, starts, outs-in}
-use Rattle.links_catmull.specs.Pass.{given}
+use Rattle.links_edits.specs.Held.{given}
 use Rattle.scope.specs.Tally.{countsOf}
 use lib.Seq.{length-take-le}
 use lib.ListN.{length, take}

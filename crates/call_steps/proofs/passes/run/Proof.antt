@@ -2,7 +2,7 @@ use Prim.Native.Nat.{_*_, _-_}
 use mathlib.Core.Path.{_≡_, _∙_}
 use borrow.Author.Needs.{needs}
 use lib.ListN.{length, take}
-use Rattle.links_catmull.specs.Pass.{given}
+use Rattle.links_edits.specs.Held.{given}
 use Rattle.call_steps.proofs.RunLaws.{Running, lengths, run-start, run-ready, run-next, run-stops, run-done}
 use Rattle.call_steps.proofs.passes.run.Statement.{statement}
 use Rattle.call_steps.proofs.passes.run.Tie as tie
