@@ -1,5 +1,7 @@
 // The subdivision call (document 01, section 4): its answer for every input, and what it leaves in every slice that was lent.
 
+#![tactic(auto)]
+
 ghost use Rattle.std.specs.Prelude.{◌≡◌, take, ◌*◌};
 ghost use Rattle.scope.specs.Call.{call};
 ghost use Rattle.check_mesh.specs.Checked.{slices_at};

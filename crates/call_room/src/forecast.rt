@@ -13,7 +13,7 @@ use crate::kind::{Kind, turn};
 use crate::tally::Amounts;
 
 // The amounts that are ahead and the flag there, or that a count is over the limit by then.
-#[derive(Drop)]
+#[derive(Clone, Copy)]
 pub enum Ahead {
     Reached(Amounts, bool),
     Over,

@@ -11,7 +11,7 @@ use mesh::rim::rim;
 use scope::records::Counts;
 
 // Vertices, edges, faces, the sum of the face lengths, the edges with a rim halfedge.
-#[derive(Drop)]
+#[derive(Clone, Copy)]
 pub struct Amounts {
     pub v: usize,
     pub e: usize,

@@ -17,14 +17,14 @@ use scope::records::Counts;
 use slices::numbers::copy_numbers;
 
 // A pass that is done, with the counts after it; or the lowest vertex whose weight is needed and not there.
-#[derive(Drop)]
+#[derive(Clone, Copy)]
 pub enum Passed {
     On(Counts),
     NoWeightAt(u32),
 }
 
 // Passes that are done, with the counts and the flag after them; or the pass, counted from 1, that stopped, and its vertex.
-#[derive(Drop)]
+#[derive(Clone, Copy)]
 pub enum Ran {
     Through(Counts, bool),
     Stopped(u32, u32),

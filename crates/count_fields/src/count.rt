@@ -9,14 +9,14 @@ use crate::loops::rim_loops;
 use crate::numbers::{corners, joined, rim_edges};
 
 // A whole number with its sign.
-#[derive(Drop)]
+#[derive(Clone, Copy)]
 pub struct Shells {
     pub minus: bool,
     pub size: usize,
 }
 
 // The fields of the counter's line.
-#[derive(Drop)]
+#[derive(Clone, Copy)]
 pub struct Tally {
     pub v: usize,
     pub e: usize,

@@ -1,4 +1,6 @@
 // Reads one mesh file of at most 65,536 bytes from standard input, and writes one line: its counts, or the refusal.
+
+#![tactic(auto)]
 fn main() {
     let mut file = count_line::whole::new_file();
     let n = io::read_full(0, &mut file);

@@ -1,3 +1,5 @@
 // The calls for C and Rust programs: each slice is a pointer and a length, each answer a record of numbers.
 
+#![tactic(auto)]
+
 pub mod calls;

@@ -9,7 +9,7 @@ use file_write::write::Writing;
 use scope::answers::{Checked, Refusal, Said, Subdivided, in_numbers};
 
 #[repr(C)]
-#[derive(Drop)]
+#[derive(Clone, Copy)]
 pub struct Flat {
     pub number: u32,
     pub first: u32,
@@ -19,7 +19,7 @@ pub struct Flat {
 
 // What a reader answers, and the counts of the mesh that was read; zeros if none was.
 #[repr(C)]
-#[derive(Drop)]
+#[derive(Clone, Copy)]
 pub struct FlatRead {
     pub answer: Flat,
     pub v: usize,
@@ -29,7 +29,7 @@ pub struct FlatRead {
 
 // What a writer answers, and the number of bytes that it wrote.
 #[repr(C)]
-#[derive(Drop)]
+#[derive(Clone, Copy)]
 pub struct FlatWritten {
     pub answer: Flat,
     pub length: usize,
@@ -37,7 +37,7 @@ pub struct FlatWritten {
 
 // What a subdivision answers, the counts of the result and the flag for the next call; zeros if there is none.
 #[repr(C)]
-#[derive(Drop)]
+#[derive(Clone, Copy)]
 pub struct FlatSubdivided {
     pub answer: Flat,
     pub v: usize,

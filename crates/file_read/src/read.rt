@@ -13,7 +13,7 @@ use scope::answers::{Checked, Refusal};
 use scope::records::Counts;
 
 // What a reader answers: the counts of the mesh that is now in the slices, or why there is none.
-#[derive(Drop)]
+#[derive(Clone, Copy)]
 pub enum Reading {
     Read(Counts),
     Refused(Refusal),

@@ -15,7 +15,7 @@ use scope::answers::Refusal;
 use scope::records::Counts;
 
 // What a writer answers: how many bytes are written, or why none is.
-#[derive(Drop)]
+#[derive(Clone, Copy)]
 pub enum Writing {
     Written(usize),
     Refused(Refusal),

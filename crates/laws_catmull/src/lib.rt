@@ -1,1 +1,3 @@
 // What a Catmull-Clark pass leaves is in proofs/.
+
+#![tactic(auto)]

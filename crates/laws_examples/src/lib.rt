@@ -1,1 +1,3 @@
 // Meshes on which the laws are tried are in specs/, the laws on them in proofs/.
+
+#![tactic(auto)]

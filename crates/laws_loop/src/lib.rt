@@ -1,1 +1,3 @@
 // What a Loop pass leaves is in proofs/.
+
+#![tactic(auto)]

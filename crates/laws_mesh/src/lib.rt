@@ -1,1 +1,3 @@
 // The theory of consistent halfedge meshes is in specs/ and proofs/.
+
+#![tactic(auto)]

@@ -1,1 +1,3 @@
 // What a pass of sqrt3 leaves is in proofs/.
+
+#![tactic(auto)]

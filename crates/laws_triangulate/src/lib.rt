@@ -1,1 +1,3 @@
 // What triangulate leaves is in proofs/.
+
+#![tactic(auto)]

@@ -14,7 +14,7 @@ use mesh::rows::{set_start, start, store_edge};
 use scope::records::{Edge, Halfedge};
 
 // Where face f is cut: the new edge leads from p's head to n's tail. The part that is cut off is from a, after p, to b, before n.
-#[derive(Drop)]
+#[derive(Clone, Copy)]
 pub struct Gap {
     pub p: u32,
     pub n: u32,

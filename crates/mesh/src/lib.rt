@@ -1,5 +1,7 @@
 // The words of a mesh in its slices: partners, single links, records loaded and stored.
 
+#![tactic(auto)]
+
 pub mod half;
 pub mod rim;
 pub mod rows;

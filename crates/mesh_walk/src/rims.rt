@@ -10,7 +10,7 @@ use mesh::half::{NONE, next, partner, turn};
 use mesh::rim::rim;
 
 // A halfedge that is looked for.
-#[derive(Drop)]
+#[derive(Clone, Copy)]
 pub enum Found {
     At(u32),
     Nowhere,

@@ -1,5 +1,7 @@
 // Points and the smoothing rules (document 01, section 3), coordinate by coordinate, each operation rounded once, in the order that is fixed there.
 
+#![tactic(auto)]
+
 ghost use Rattle.std.specs.Prelude.{◌≡◌, suc};
 ghost use Rattle.scope.specs.Point.{add_p, scale_p, over_p, zero_p};
 ghost use Rattle.scope.specs.Points.{number};

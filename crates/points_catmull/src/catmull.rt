@@ -18,7 +18,7 @@ use points::{add, cc_edge, cc_inner, mean, middle, zero};
 use scope::records::{Counts, Point};
 
 // The sums of face points and of neighbours around a vertex, and its valence.
-#[derive(Drop)]
+#[derive(Clone, Copy)]
 pub struct Ring {
     pub faces: Point,
     pub heads: Point,

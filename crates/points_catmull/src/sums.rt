@@ -13,7 +13,7 @@ use points::{add, mean, zero};
 use scope::records::{Counts, Point};
 
 // A sum of points, and how many they are.
-#[derive(Drop)]
+#[derive(Clone, Copy)]
 pub struct Sum {
     pub total: Point,
     pub count: u32,

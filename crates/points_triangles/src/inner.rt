@@ -14,7 +14,7 @@ use points_weights::{Found, find};
 use scope::records::{Counts, Point};
 
 // What a scheme does with a vertex on the rim.
-#[derive(Drop)]
+#[derive(Clone, Copy)]
 pub enum RimRule {
     Stay,
     Eighths,
@@ -22,7 +22,7 @@ pub enum RimRule {
 }
 
 // Where a vertex goes; or, in the interior, the row of its weights, the sum of its neighbours and its own point; or that its valence has no weights.
-#[derive(Drop)]
+#[derive(Clone, Copy)]
 pub enum Moved {
     To(Point),
     By(usize, Point, Point),

@@ -15,7 +15,7 @@ use points_catmull::sums::narrow;
 use scope::records::{Counts, Weights};
 
 // The lowest vertex whose weights are wanted and not there.
-#[derive(Drop)]
+#[derive(Clone, Copy)]
 pub enum Weightless {
     Nobody,
     Vertex(u32),

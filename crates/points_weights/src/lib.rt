@@ -1,5 +1,7 @@
 // The weights of an interior vertex by its valence (document 01, section 3): the tables of the source, 64 rows each.
 
+#![tactic(auto)]
+
 ghost use Rattle.std.specs.Prelude.{◌≡◌};
 ghost use Rattle.scope.specs.Weights.{loop_rows, sqrt_rows};
 ghost use Rattle.points_weights.specs.Tables.{table, found};
@@ -7,7 +9,7 @@ ghost use Rattle.points_weights.specs.Tables.{table, found};
 use scope::records::Weights;
 
 // Where a table has the weights for a valence.
-#[derive(Drop)]
+#[derive(Clone, Copy)]
 pub enum Found {
     Row(usize),
     TooMany,

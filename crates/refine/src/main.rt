@@ -4,6 +4,8 @@
 // done and what the next run must be told (refine_words::lines): `next` is the flag to give it. A refusal writes `refused`, document 01's number and the place, and
 // nothing to standard output. A program cannot set its exit status.
 
+#![tactic(auto)]
+
 use call_room::kind::Kind;
 use libc::{STDERR_FILENO, STDIN_FILENO, STDOUT_FILENO};
 use refine_job::Refined;

@@ -1,5 +1,7 @@
 // One run over the bytes of a mesh file: read, subdivided, written into the same bytes.
 
+#![tactic(auto)]
+
 ghost use Rattle.std.specs.Prelude.{◌≡◌, ◌≤◌, length};
 ghost use Rattle.scope.specs.Call.{call};
 ghost use Rattle.check_mesh.specs.Checked.{slices_at};
@@ -18,7 +20,7 @@ use scope::records::Counts;
 
 // What a run answers: the length of the file that was written, the counts of its mesh, the flag for the next run and the edges with a rim
 // halfedge; or why there is none.
-#[derive(Drop)]
+#[derive(Clone, Copy)]
 pub enum Refined {
     Written(usize, Counts, bool, usize),
     Refused(Refusal),

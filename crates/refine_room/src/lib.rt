@@ -1,6 +1,8 @@
 // Room for one run, on a stack of 8 MB: a cage of 7,680 vertices, 15,360 edges and 7,680 faces, a result of 28,672 vertices, 58,368 edges and
 // 28,672 faces, the work of a pass over such a cage, and the file of such a result: 8,044,608 bytes in all.
 
+#![tactic(auto)]
+
 ghost use Rattle.std.specs.Prelude.{◌≡◌, ◌≤◌, length};
 ghost use Rattle.refine_job.specs.Job.{Within};
 

@@ -5,19 +5,19 @@ ghost use Rattle.refine_words.specs.Words.{same, scheme_asked, flag_asked, passe
 
 use call_room::kind::Kind;
 
-#[derive(Drop)]
+#[derive(Clone, Copy)]
 pub enum SchemeAsked {
     Scheme(Kind),
     NoScheme,
 }
 
-#[derive(Drop)]
+#[derive(Clone, Copy)]
 pub enum FlagAsked {
     Flag(bool),
     NoFlag,
 }
 
-#[derive(Drop)]
+#[derive(Clone, Copy)]
 pub enum PassesAsked {
     Passes(u32),
     NoNumber,

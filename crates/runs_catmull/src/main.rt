@@ -10,6 +10,8 @@
 // A word has four bytes, a mark one, a number the eight of its bits, little-endian. After those beginnings there are zeros, but after the answers 1 to 4
 // junk as it was handed in.
 
+#![tactic(auto)]
+
 mod expect;
 mod input;
 mod junk;
@@ -47,7 +49,7 @@ fn step(space: &mut [u8]) -> u32
 }
 
 // Cases, and the differences in all of them.
-#[derive(Drop)]
+#[derive(Clone, Copy)]
 struct Total {
     cases: u32,
     differences: u32,

@@ -1,6 +1,8 @@
 // Replays recorded cases of the check. Standard input holds mesh files one after the other, each with its length in four bytes before it; a line is written for
 // each: document 01's number of the reader's answer, and for 3 the rule, the kind of place (0 vertex, 1 halfedge, 2 edge, 3 face) and the index.
 
+#![tactic(auto)]
+
 ghost use Rattle.std.specs.Prelude.{◌≡◌, ◌≤◌, length};
 
 use file_read::bytes::word;

@@ -1,4 +1,6 @@
 // The counter's line about each of eleven files that its arguments name.
+
+#![tactic(auto)]
 use libc::STDOUT_FILENO;
 
 fn run(i: usize) {

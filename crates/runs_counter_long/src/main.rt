@@ -1,4 +1,6 @@
 // The counter on an input of one byte more than it takes: refused before all else.
+
+#![tactic(auto)]
 fn main() {
     let mut file = count_line::whole::new_file();
     let n = io::read_full(0, &mut file);

@@ -1,6 +1,8 @@
 // Each cage of its arguments refined by two passes at once, and by one and then one on the file that the first left, with the flag that it
 // returned: the two files, byte by byte.
 
+#![tactic(auto)]
+
 ghost use Rattle.io.specs.Counts.{IsPrefixLen};
 
 use call_room::kind::Kind;

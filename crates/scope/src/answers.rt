@@ -6,7 +6,7 @@ ghost use Rattle.scope.specs.Answers.{kind_of, index_of, told_of, said_of};
 use crate::records::Counts;
 
 // Where something is wrong.
-#[derive(Drop)]
+#[derive(Clone, Copy)]
 pub enum Place {
     AtVertex(u32),
     AtHalfedge(u32),
@@ -15,14 +15,14 @@ pub enum Place {
 }
 
 // A broken rule, C1 to C9, and the first place of it.
-#[derive(Drop)]
+#[derive(Clone, Copy)]
 pub struct Fault {
     pub rule: u32,
     pub place: Place,
 }
 
 // The refusals of document 01's table, in its order. Those of the source keep its names.
-#[derive(Drop)]
+#[derive(Clone, Copy)]
 pub enum Refusal {
     TooManyPasses,
     ShortSlice,
@@ -43,28 +43,28 @@ pub enum Refusal {
 }
 
 // What a check answers.
-#[derive(Drop)]
+#[derive(Clone, Copy)]
 pub enum Checked {
     Sound,
     Unsound(Refusal),
 }
 
 // What a subdivision answers: the counts of the result and the flag for the next call.
-#[derive(Drop)]
+#[derive(Clone, Copy)]
 pub enum Subdivided {
     Done(Counts, bool),
     Refused(Refusal),
 }
 
 // What an edit answers: the counts afterwards, and the new halfedge or edge where the source returns one, else 0.
-#[derive(Drop)]
+#[derive(Clone, Copy)]
 pub enum Edited {
     Changed(Counts, u32),
     Unchanged(Refusal),
 }
 
 // Document 01's number of an answer, and the values that come with it.
-#[derive(Drop)]
+#[derive(Clone, Copy)]
 pub struct Said {
     pub number: u32,
     pub values: [u32; 3],

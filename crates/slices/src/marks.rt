@@ -4,7 +4,7 @@ ghost use Rattle.std.specs.Prelude.{◌≡◌, length, take, ◌≤◌};
 ghost use Rattle.slices.specs.Marks.{found_mark};
 
 // A mark that is set, or none.
-#[derive(Drop)]
+#[derive(Clone, Copy)]
 pub enum Mark {
     At(u32),
     Nothing,

@@ -1,5 +1,7 @@
 // Words and decimal numbers put into a slice of bytes, one after the other. Each call answers the place after what it put.
 
+#![tactic(auto)]
+
 ghost use Rattle.std.specs.Prelude.{◌≡◌, ◌+◌, ◌≤◌, length};
 ghost use Rattle.text.specs.Text.{over_from, decimal, signed};
 
