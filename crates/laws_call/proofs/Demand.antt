@@ -52,9 +52,9 @@ abbrev pub is-done : Subdivided → Bool
 is-done (Done c flag) = true
 is-done (Refused r) = false
 
-abbrev counts_of : Counts → Subdivided → Counts
-counts_of d (Done c flag) = c
-counts_of d (Refused r) = d
+abbrev counts_answered : Counts → Subdivided → Counts
+counts_answered d (Done c flag) = c
+counts_answered d (Refused r) = d
 
 -- both are refused, with first and second the same
 refused-first : (a : ℕ) (r : Refusal) (p q : Buffers) →
@@ -106,7 +106,7 @@ module _ (S : Scheme) (sides : ℕ) (w : Laws S sides) (a : ℕ) (c₀ : Counts)
         same_values = λ ne. refl;
         same_answer = refl;
         same_bits = λ c flag i.
-            let j : made.counts ≡ c = ap (counts_of c₀) i in
+            let j : made.counts ≡ c = ap (counts_answered c₀) i in
             rw (← j) (alike-filled made.counts made.slices made.points y z (rw s at fy) fz);
       })
 

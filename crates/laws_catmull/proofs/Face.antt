@@ -22,7 +22,7 @@ use Rattle.laws_mesh.proofs.Fan.{Fan, fan-consistent, fan-quad, fan-length}
 use Rattle.laws_mesh.proofs.FanOn.{Given, Run, fan-on, fan-counts, fan-edges_long, fan-faces_long}
 use Rattle.laws_mesh.proofs.LoopParts.{name-first, names-first, double, pairs-run, pairs-length, pairs-parts, four-cycle}
 use Rattle.laws_mesh.proofs.SplitFaceLaws.{grown-plain}
-use Rattle.laws_mesh.proofs.FromOld.{first-old, first-old-is, from_old}
+use Rattle.laws_mesh.proofs.FromOld.{first-old, first-old-is, from_old_lem}
 
 module _ (m : Links) (old f n : ℕ) (g : Good m) (f_in : f < m.nf) (len : Length (next m) (start m f) (2 * n))
     (room-v : m.nv + 1 ≤ 1048576) (room_e : m.ne + n ≤ 1048576) (room_f : m.nf + (n - 1) ≤ 1048576) where
@@ -74,7 +74,7 @@ module _ (m : Links) (old f n : ℕ) (g : Good m) (f_in : f < m.nf) (len : Lengt
   is : catmull_face old f m ≡ (m ▸ fan m.nv qs ▸ out_is m.nv (2 * (m.ne + 0) + 1) ▸ more 1 0 0)
   unfolding catmull_face qs
   is =
-      ap (λ (hs : List ℕ). m ▸ fan m.nv (pairs f m.nf hs) ▸ out_is m.nv (2 * m.ne + 1) ▸ more 1 0 0) (from_old m g old f (2 * n) f_in len)
+      ap (λ (hs : List ℕ). m ▸ fan m.nv (pairs f m.nf hs) ▸ out_is m.nv (2 * m.ne + 1) ▸ more 1 0 0) (from_old_lem m g old f (2 * n) f_in len)
       ∙ ap (λ (h : ℕ). m ▸ fan m.nv (pairs f m.nf (steps (next m) corner (2 * n))) ▸ out_is m.nv h ▸ more 1 0 0) (let q : 2 * m.ne + 1 ≡ 2 * (m.ne + 0) + 1 = omega arith in q)
 
   abbrev m' : Links

@@ -13,7 +13,7 @@ use Rattle.laws_mesh.specs.Of.{Good}
 use Rattle.laws_mesh.proofs.Cycle.{split}
 use Rattle.laws_mesh.proofs.Count.{Length}
 use Rattle.laws_mesh.proofs.Loops.{good-shape, steps}
-use Rattle.laws_mesh.proofs.FromOld.{first-old, first-old-is, from_old}
+use Rattle.laws_mesh.proofs.FromOld.{first-old, first-old-is, from_old_lem}
 use Rattle.laws_loop.proofs.Cut.{cut-counts, cut-good, cut-corner, cut-walk, cut-x_in, cut-x-face, cut-rest, cut-rest-length, cut-old}
 
 -- what a face's step leaves
@@ -178,4 +178,4 @@ pub loop-face : (m : Links) (old f : ℕ) → Good m → f < m.nf → Length (ne
 unfolding loop_face corners steps
 loop-face m old f g f_in len room_e room_f =
     let (i, e, l) = first-old-is m g old f 6 f_in len in
-    subst⁻¹ (λ (hs : List ℕ). Trimmed m (corners hs m) f) (from_old m g old f 6 f_in len) (trimmed m f (first-old old f m) g i e ((good-shape m g).F-none f f_in) f_in l room_e room_f)
+    subst⁻¹ (λ (hs : List ℕ). Trimmed m (corners hs m) f) (from_old_lem m g old f 6 f_in len) (trimmed m f (first-old old f m) g i e ((good-shape m g).F-none f f_in) f_in l room_e room_f)

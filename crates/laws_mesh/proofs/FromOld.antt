@@ -31,6 +31,6 @@ module _ (m : Links) (g : Good m) (n f k : ℕ) (f_in : f < m.nf) (len : Length 
       either (λ x. (x < 2 * m.ne) × (face m x ≡ f) × Length (next m) x k) (ltb (head m (start m f)) n) (start m f) (next m (start m f))
       (i, e, len) (c.next_in (start m f) i, c.next_face (start m f) i ∙ e, length-around (perm-next (good-shape m g) c) i len (step here))
 
-  pub from_old : from_old n f m ≡ steps (next m) (first-old n f m) k
+  pub from_old_lem : from_old n f m ≡ steps (next m) (first-old n f m) k
   unfolding from_old first-old
-  from_old = loop-steps m g (first-old n f m) k first-old-is.0 first-old-is.2
+  from_old_lem = loop-steps m g (first-old n f m) k first-old-is.0 first-old-is.2

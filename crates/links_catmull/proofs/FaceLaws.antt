@@ -15,7 +15,7 @@ use Rattle.laws_mesh.proofs.Stores as stores
 use Rattle.laws_mesh.proofs.Count.{Length}
 use Rattle.laws_mesh.proofs.Ring.{after-lt}
 use Rattle.laws_mesh.proofs.Loops.{steps, length-steps}
-use Rattle.laws_mesh.proofs.FromOld.{first-old, first-old-is, from_old}
+use Rattle.laws_mesh.proofs.FromOld.{first-old, first-old-is, from_old_lem}
 use Rattle.laws_mesh.proofs.FanOn.{Given, Run, Done, a_lt, b_lt, a-b, b-b, G-lt, none_yet, done_on}
 use Rattle.laws_catmull.proofs.Face.{given, qs, qs-long, qs-run}
 use Rattle.mesh.specs.Words.{next_at, Has}
@@ -152,7 +152,7 @@ module _ (t : Links) (old f n : ℕ) (gd : Good t) (f_in : f < t.nf) (len : Leng
   from_is = from_first old f l ∙ ap (loop l) first-is ∙ loop_is t agree walk ∙ sym (from_first old f t)
 
   list-t : from_old old f t ≡ steps (next t) (first-old old f t) (2 * n)
-  list-t = from_old t gd old f (2 * n) f_in len
+  list-t = from_old_lem t gd old f (2 * n) f_in len
 
   parts-t : parts old f t ≡ n
   parts-t = ap (λ (hs : List ℕ). length hs / 2) list-t ∙ ap (λ (k : ℕ). k / 2) (length-steps (next t) (first-old old f t) (2 * n)) ∙ (let q : 2 * n / 2 ≡ n = omega arith in q)

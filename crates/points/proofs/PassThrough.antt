@@ -12,7 +12,7 @@ use lib.Ieee.{Float}
 use Rattle.scope.specs.declared.records.Point.{Point}
 use Rattle.scope.specs.declared.records.FacePoints.{FacePoints}
 use Rattle.scope.specs.declared.records.FacePoints.TheVariants.{Centre, Pair}
-use Rattle.scope.specs.Point.{zero_p}
+use Rattle.scope.specs.Point.{zero_p, add_p}
 use Rattle.scope.specs.Rules.{loop_rim, sqrt_rim, sqrt_pair}
 use Rattle.scope.specs.Weights.{row, loop_rows, sqrt_rows}
 use Rattle.scope.specs.Lists.{if, only, range}
@@ -50,7 +50,7 @@ module _ (R S T : Float → Float → Type 0) (r : Through R) (s : Through S) (t
   plus-each : {p q : Point} {ps qs : List Point} → Each R S T p q → Pairs R S T ps qs → Each R S T (plus p ps) (plus q qs)
   unfolding plus
   plus-each h done = h
-  plus-each h (pair e l) = plus-each (add-each R S T r s t h e) l
+  plus-each {p = p} {q = q} h (pair {p = p'} {q = q'} e l) = plus-each {p = add_p p p'} {q = add_p q q'} (add-each R S T r s t h e) l
 
   map_each : (f g : ℕ → Point) → ((x : ℕ) → Each R S T (f x) (g x)) → (l : List ℕ) → Pairs R S T (map f l) (map g l)
   map_each f g h [] = done
@@ -164,6 +164,8 @@ module _ (R S T : Float → Float → Type 0) (r : Through R) (s : Through S) (t
 
     given-each : (a b : FacePoints) → EachAnswer R S T a b → Pairs R S T (given a) (given b)
     given-each (Centre p) (Centre q) h = pair h done
+    given-each (Centre p) (Pair u v) h = elim h [ ]
+    given-each (Pair p q) (Centre _) h = elim h [ ]
     given-each (Pair p q) (Pair u v) h = pair h.0 (pair h.1 done)
 
     answers-each : (flag : Bool) (fs : List ℕ) → Pairs R S T (answers flag m ps fs) (answers flag m qs fs)

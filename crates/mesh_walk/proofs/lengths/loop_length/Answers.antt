@@ -1,0 +1,27 @@
+use Prim.Native.Nat.{◌+◌, ◌*◌}
+use mathlib.Core.Path.{◌≡◌}
+use lib.ListN.{length}
+use native.Mathlib.Omega.{arith}
+use borrow.Author.Rules.{rules}
+use Rattle.mesh.specs.Words.{next_at}
+use Rattle.mesh.specs.Rounds.{Walk, loop_at}
+use Rattle.mesh.proofs.RoundLaws.{Left, left_out, left_back, left-on, walk-has, walk-on}
+use Rattle.mesh_walk.proofs.lengths.loop_length.Goals as goal
+
+pub loop-left-init : goal.loop-left-init
+loop-left-init c = (c.requires, omega arith, record { whole = omega arith })
+
+pub next-x-requires : goal.next-x-requires
+next-x-requires c = walk-has c.loop-left.invariant.0
+
+pub returns-then-x-h : goal.returns-then-x-h
+returns-then-x-h c = left_back c.loop-left.invariant.2 c.loop-left-test.true c.next-x.ensures c.if-x-h.true
+
+pub loop-left-preserved : goal.loop-left-preserved
+loop-left-preserved c = let i = c.loop-left.invariant in
+    let s = c.next-x.ensures in
+    (walk-on s i.0, omega arith, left-on i.2 c.loop-left-test.true s c.if-x-h.false (λ l. omega arith))
+
+pub returns : goal.returns
+returns c = let e = left_out c.loop-left.invariant.2 c.loop-left-test.false in
+    omega arith

@@ -1,0 +1,14 @@
+use mathlib.Core.List.{[]}
+use mathlib.Core.Path.{◌≡◌, refl, sym, ◌∙◌}
+use borrow.Author.Rules.{rules}
+use Rattle.scope.specs.Lists.{has}
+use Rattle.mesh.specs.Words.{next_at}
+use Rattle.mesh.specs.Rounds.{Walk, loop_at}
+use Rattle.mesh.proofs.RoundLaws.{Left, left_out, left-first, left_back, left-on, walk-has, walk-on, has-none, has_here, has-past}
+use Rattle.mesh_walk.proofs.meets.on_loop.Given as goal
+
+abbrev pub invariant-loop-left : goal.invariant-loop-left
+invariant-loop-left l = Walk next_at l.edges l.n l.x × Left (has l.k) (next_at l.edges) l.h l.left l.x (has l.k (loop_at l.edges l.n l.h))
+
+abbrev pub decreases-loop-left : goal.decreases-loop-left
+decreases-loop-left l = l.left

@@ -1,0 +1,7 @@
+use borrow.Author.Rules.{rules}
+use Rattle.scope.specs.Rules.{cc_inner}
+use Rattle.points.proofs.cc_inner.Goals as goal
+
+pub returns : goal.returns
+unfolding cc_inner
+returns c = cc

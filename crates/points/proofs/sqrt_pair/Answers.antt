@@ -1,0 +1,7 @@
+use borrow.Author.Rules.{rules}
+use Rattle.scope.specs.Rules.{sqrt_pair}
+use Rattle.points.proofs.sqrt_pair.Goals as goal
+
+pub returns : goal.returns
+unfolding sqrt_pair
+returns c = cc

@@ -1,0 +1,7 @@
+use borrow.Author.Rules.{rules}
+use Rattle.scope.specs.Rules.{weighted}
+use Rattle.points.proofs.weighted.Goals as goal
+
+pub returns : goal.returns
+unfolding weighted
+returns c = cc

@@ -1,0 +1,12 @@
+use borrow.Author.Rules.{rules}
+use native.Mathlib.Omega.{arith}
+use Prim.Native.Nat.{◌≤◌, ◌-◌}
+use lib.Ieee.{nan}
+use Rattle.slices.proofs.CopyLaws.{Copied, copy-none, copy-on, length-copied, copy_done}
+use Rattle.slices.proofs.numbers.copy_numbers.Given as goal
+
+abbrev pub invariant-loop-i : goal.invariant-loop-i
+invariant-loop-i l = (l.i ≤ l.n) × Copied l.src l.initial.dst l.i l.dst
+
+abbrev pub decreases-loop-i : goal.decreases-loop-i
+decreases-loop-i l = l.n - l.i
