@@ -19,11 +19,11 @@ told p = record { so = λ e. p; not_so = λ e. never e }
 pub denied : {P : Type 0} → (P → ⊥) → Tells false P
 denied n = record { so = λ e. never (sym e); not_so = λ e. n }
 
-pub is-so : {b : Bool} {P : Type 0} → Tells b P → not b ≡ false → P
-is-so {b} t e = t.so (not-false b e)
+pub is-so : {b : Bool} {P : Type 0} → Tells b P → b ≡ true → P
+is-so t e = t.so e
 
-pub is-not : {b : Bool} {P : Type 0} → Tells b P → not b ≡ true → P → ⊥
-is-not {b} t e = t.not_so (not-true b e)
+pub is-not : {b : Bool} {P : Type 0} → Tells b P → b ≡ false → P → ⊥
+is-not t e = t.not_so e
 
 pub tells-map : {b : Bool} {P Q : Type 0} → Tells b P → (P → Q) → (Q → P) → Tells b Q
 tells-map t f g = record { so = λ e. f (t.so e); not_so = λ e q. t.not_so e (g q) }

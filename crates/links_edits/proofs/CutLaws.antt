@@ -69,9 +69,9 @@ paint-below l g (h ∷ hs) r (i, w) b = paint-below l g hs (store face h g ∷ r
 abbrev join_by : Gap → ℕ → ℕ → Links → Links
 join_by x u v m = held (m.nv + 0) (m.ne + 1) (m.nf + 0) m.outs (stores m.edges (gap_run x u v (2 * m.ne) (2 * m.ne + 1))) m.faces
 
-join_by : (p n : ℕ) (m : Links) → joined p n m ≡ join_by (gap_of m.edges p n) (tail_at m.edges n) (head_at m.edges p) m
+join_by_lem : (p n : ℕ) (m : Links) → joined p n m ≡ join_by (gap_of m.edges p n) (tail_at m.edges n) (head_at m.edges p) m
 unfolding joined
-join_by p n m = refl
+join_by_lem p n m = refl
 
 abbrev cut_by : Gap → ℕ → ℕ → List ℕ → ℕ → Links → Links
 cut_by x u v part old m =
@@ -79,9 +79,9 @@ cut_by x u v part old m =
     (stores m.edges (paint_run m.nf part (gap_run x u v (2 * m.ne) (2 * m.ne + 1))))
     (put (put m.faces m.nf (2 * m.ne + 1)) x.f (if (has old part) (2 * m.ne) old))
 
-cut_by : (p n : ℕ) (m : Links) (part : List ℕ) → loop (joined p n m) (2 * m.ne + 1) ≡ part → cut_off p n m ≡ cut_by (gap_of m.edges p n) (tail_at m.edges n) (head_at m.edges p) part (link_at m.faces (face_at m.edges p)) m
+cut_by_lem : (p n : ℕ) (m : Links) (part : List ℕ) → loop (joined p n m) (2 * m.ne + 1) ≡ part → cut_off p n m ≡ cut_by (gap_of m.edges p n) (tail_at m.edges n) (head_at m.edges p) part (link_at m.faces (face_at m.edges p)) m
 unfolding cut_off across_face joined
-cut_by p n m part e =
+cut_by_lem p n m part e =
     let x = gap_of m.edges p n in
     let u = tail_at m.edges n in
     let v = head_at m.edges p in
@@ -116,7 +116,7 @@ module _ {es faces : List ℕ} {ne g p n : ℕ} {part : List ℕ} (k : CutOk es 
       }
 
   is : cut_off p n (held 0 ne g [] es faces) ≡ cut_by (gap_of es p n) (tail_at es n) (head_at es p) ((2 * ne + 1) ∷ part) (link_at faces (face_at es p)) (held 0 ne g [] es faces)
-  is = cut_by p n (held 0 ne g [] es faces) ((2 * ne + 1) ∷ part) k.part_is
+  is = cut_by_lem p n (held 0 ne g [] es faces) ((2 * ne + 1) ∷ part) k.part_is
 
   pub cut-in-edges : sets es (paint_run g ((2 * ne + 1) ∷ part) (gap_run (gap_of es p n) (tail_at es n) (head_at es p) (2 * ne) (2 * ne + 1))) ≡ (cut_off p n (held 0 ne g [] es faces)).edges
   cut-in-edges =
@@ -190,12 +190,12 @@ module _ (m : Links) (outs edges faces : List ℕ) (p n : ℕ) (part : List ℕ)
       let u = tail_at m.edges n in
       let v = head_at m.edges p in
       let l : Links = laid m outs edges faces in
-      join_by p n l
+      join_by_lem p n l
       ∙ ap (λ (x : Gap). join_by x (tail_at l.edges n) (head_at l.edges p) l) gap-laid
       ∙ ap (λ (u : ℕ). join_by x u (head_at l.edges p) l) tail-laid
       ∙ ap (λ (v : ℕ). join_by x u v l) head-laid
       ∙ held-is refl (stores-lay (2 * m.ne + 2) m.edges edges (gap_run x u v (2 * m.ne) (2 * m.ne + 1)) (omega arith) (gap_below x u v m.ne touches)) refl
-      ∙ ap (λ (t : Links). laid t outs edges faces) (sym (join_by p n m))
+      ∙ ap (λ (t : Links). laid t outs edges faces) (sym (join_by_lem p n m))
 
   part-laid : loop (joined p n (laid m outs edges faces)) (2 * m.ne + 1) ≡ (2 * m.ne + 1) ∷ part
   part-laid =
@@ -237,7 +237,7 @@ module _ (m : Links) (outs edges faces : List ℕ) (p n : ℕ) (part : List ℕ)
       let s = link_at m.faces (face_at m.edges p) in
       let f-low : x.f < length faces = (let a = d.old_face in omega arith) in
       let to : ℕ = if (has s hs) (2 * m.ne) s in
-      cut_by p n l hs part-laid
+      cut_by_lem p n l hs part-laid
       ∙ ap (λ (x : Gap). cut_by x (tail_at l.edges n) (head_at l.edges p) hs (link_at (lay 0 m.faces faces) x.f) l) gap-laid
       ∙ ap (λ (u : ℕ). cut_by x u (head_at l.edges p) hs (link_at (lay 0 m.faces faces) x.f) l) tail-laid
       ∙ ap (λ (v : ℕ). cut_by x u v hs (link_at (lay 0 m.faces faces) x.f) l) head-laid
@@ -246,4 +246,4 @@ module _ (m : Links) (outs edges faces : List ℕ) (p n : ℕ) (part : List ℕ)
       (stores-lay (2 * m.ne + 2) m.edges edges (paint_run m.nf hs (gap_run x u v (2 * m.ne) (2 * m.ne + 1))) (omega arith)
       (paint-below (2 * m.ne + 2) m.nf hs _ (omega arith, low_up (2 * m.ne) (2 * m.ne + 2) part (omega arith) d.part_low) (gap_below x u v m.ne touches)))
       (ap (λ (t : List ℕ). put t x.f to) (put-lay m.faces faces m.nf (2 * m.ne + 1) (omega arith)) ∙ put-lay (put m.faces m.nf (2 * m.ne + 1)) faces x.f to f-low)
-      ∙ ap (λ (t : Links). laid t outs edges faces) (sym (cut_by p n m hs (part-here m p n part d)))
+      ∙ ap (λ (t : Links). laid t outs edges faces) (sym (cut_by_lem p n m hs (part-here m p n part d)))

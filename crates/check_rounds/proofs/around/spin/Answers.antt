@@ -1,0 +1,5 @@
+use borrow.Author.Rules.{rules}
+use Rattle.check_rounds.proofs.around.spin.Goals as goal
+
+pub returns : goal.returns
+returns c = cc

@@ -1,0 +1,15 @@
+use Rattle.scope.specs.Lists.{number_of}
+use Prim.Native.Nat.{◌*◌, ◌+◌, ◌-◌, ◌≤◌, ℕ}
+use Rattle.check_rounds.proofs.TourLaws.{count-few, count_next}
+use Rattle.check_rounds.specs.Tour.{unmarked}
+use Rattle.laws_mesh.specs.Count.{count}
+use borrow.Author.Rules.{rules}
+use mathlib.Core.Path.{◌≡◌, refl}
+use native.Mathlib.Omega.{arith}
+use Rattle.check_rounds.proofs.fast.half_count.Given as goal
+
+abbrev pub invariant-loop-k : goal.invariant-loop-k
+invariant-loop-k l = (l.k ≤ 2 * l.ne) × (l.total ≡ count (λ (x : ℕ). unmarked l.emarks x) l.k)
+
+abbrev pub decreases-loop-k : goal.decreases-loop-k
+decreases-loop-k l = 2 * l.ne - l.k

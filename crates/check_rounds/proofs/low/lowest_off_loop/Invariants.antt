@@ -1,0 +1,16 @@
+use borrow.Author.Rules.{rules}
+use Prim.Native.Nat.{◌*◌, ◌-◌, ◌≤◌, ℕ}
+use Rattle.mesh.specs.Words.{face_at}
+use Rattle.check_rounds.proofs.LeastLaws.{loops-led}
+use Rattle.check_rounds.specs.Tour.{LedLoop}
+use Rattle.check_rules.proofs.Searches.{low-start, low_step}
+use Rattle.check_rules.specs.Place.{Low}
+use mathlib.Core.Path.{◌≡◌}
+use native.Mathlib.Omega.{arith}
+use Rattle.check_rounds.proofs.low.lowest_off_loop.Given as goal
+
+abbrev pub invariant-loop-k : goal.invariant-loop-k
+invariant-loop-k l = (l.k ≤ 2 * l.ne) × Low (λ (j : ℕ). LedLoop l.edges l.emarks l.faces l.ne j) (λ (j : ℕ). face_at l.edges j) l.k l.nf l.best
+
+abbrev pub decreases-loop-k : goal.decreases-loop-k
+decreases-loop-k l = 2 * l.ne - l.k

@@ -1,0 +1,17 @@
+use borrow.Author.Rules.{rules}
+use Prim.Native.Nat.{◌*◌, ◌-◌, ◌≤◌, ℕ}
+use Rattle.mesh.specs.Words.{tail_at}
+use Rattle.check_rounds.proofs.LeastLaws.{turns-led}
+use Rattle.check_rounds.specs.Tour.{LedTurn}
+use Rattle.check_rules.proofs.HalfLaws.{has-partner}
+use Rattle.check_rules.proofs.Searches.{low-start, low_step}
+use Rattle.check_rules.specs.Place.{Low}
+use mathlib.Core.Path.{◌≡◌}
+use native.Mathlib.Omega.{arith}
+use Rattle.check_rounds.proofs.low.lowest_off_turn.Given as goal
+
+abbrev pub invariant-loop-k : goal.invariant-loop-k
+invariant-loop-k l = (l.k ≤ 2 * l.ne) × Low (λ (j : ℕ). LedTurn l.edges l.emarks l.outs l.ne j) (λ (j : ℕ). tail_at l.edges j) l.k l.nv l.best
+
+abbrev pub decreases-loop-k : goal.decreases-loop-k
+decreases-loop-k l = 2 * l.ne - l.k

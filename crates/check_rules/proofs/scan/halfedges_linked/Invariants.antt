@@ -1,0 +1,15 @@
+use Prim.Native.Nat.{◌*◌, ◌-◌, ◌<◌, ◌≤◌, ℕ}
+use Rattle.laws_check.proofs.Tells.{is-not, is-so}
+use Rattle.check_rules.proofs.Searches.{found_here, found_none}
+use Rattle.check_rules.specs.Place.{Half}
+use Rattle.check_rules.specs.Rule.{R1h}
+use borrow.Author.Count.{below_more}
+use borrow.Author.Rules.{rules}
+use native.Mathlib.Omega.{arith}
+use Rattle.check_rules.proofs.scan.halfedges_linked.Given as goal
+
+abbrev pub invariant-loop-k : goal.invariant-loop-k
+invariant-loop-k l = (l.k ≤ 2 * l.ne) × ((j : ℕ) → j < l.k → Half l.emarks l.ne j → R1h l.edges l.vmarks l.emarks l.fmarks l.nv l.ne l.nf j)
+
+abbrev pub decreases-loop-k : goal.decreases-loop-k
+decreases-loop-k l = 2 * l.ne - l.k

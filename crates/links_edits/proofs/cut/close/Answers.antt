@@ -1,0 +1,7 @@
+use Rattle.links_edits.specs.Cut.{closed}
+use borrow.Author.Rules.{rules}
+use Rattle.links_edits.proofs.cut.close.Goals as goal
+
+pub returns : goal.returns
+unfolding closed
+returns c = cc

@@ -1,0 +1,5 @@
+use borrow.Author.Rules.{rules}
+use Rattle.links_edits.proofs.cut.look_across.Goals as goal
+
+pub returns : goal.returns
+returns c = cc

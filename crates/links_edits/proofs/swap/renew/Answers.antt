@@ -1,0 +1,7 @@
+use Rattle.links_edits.specs.Swap.{renewed}
+use borrow.Author.Rules.{rules}
+use Rattle.links_edits.proofs.swap.renew.Goals as goal
+
+pub returns : goal.returns
+unfolding renewed
+returns c = cc
