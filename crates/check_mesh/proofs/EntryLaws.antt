@@ -5,7 +5,6 @@ use mathlib.Core.List.{List}
 use mathlib.Core.Option.{Option, none, some}
 use Prim.Native.Nat.{ℕ, ◌*◌}
 use native.Mathlib.Omega.{arith}
-use borrow.Author.Tests.{not-true, not-false}
 use lib.Dec.{leb}
 use lib.ListN.{length, take}
 use lib.Seq.{length-take-le}
@@ -50,8 +49,8 @@ t-fits c s = tells-map
     })
     (λ r. ((((((((r.vertices.room, r.halfedges.room), r.sides.room), r.vertices.marks), r.halfedges.marks), r.sides.marks), r.vertices.few), r.halfedges.few), r.sides.few))
 
-pub fitting : (c : Counts) (s : Slices) {r : Bool} → r ≡ fits c (sizes s) → not r ≡ false → Fits c s
-fitting c s {r} e q = (t-fits c s).so (sym e ∙ not-false r q)
+pub fitting : (c : Counts) (s : Slices) {r : Bool} → r ≡ fits c (sizes s) → r ≡ true → Fits c s
+fitting c s {r} e q = (t-fits c s).so (sym e ∙ q)
 
 -- the used part of what fits
 pub items-used : {l m : List ℕ} {n : ℕ} → ItemsFit l m n → ItemsFit (take n l) (take n m) n
@@ -94,13 +93,13 @@ sound c s p = sound-both (fits_with c (sizes s) p) (fault (links_of c s) (marks_
 
 -- ---- the answers
 module _ (c : Counts) (s : Slices) where
-  pub links-short : {b : Bool} → b ≡ fits c (sizes s) → not b ≡ true → Unsound ShortSlice ≡ checked_links c s
+  pub links-short : {b : Bool} → b ≡ fits c (sizes s) → b ≡ false → Unsound ShortSlice ≡ checked_links c s
   unfolding checked_links
-  links-short {b} e q = rw (sym e, not-true b q)
+  links-short {b} e q = rw (sym e, q)
 
-  pub links-fit : {b : Bool} {r : Checked} → b ≡ fits c (sizes s) → not b ≡ false → r ≡ say_of (fault (links_of c s) (marks_of c s)) → r ≡ checked_links c s
+  pub links-fit : {b : Bool} {r : Checked} → b ≡ fits c (sizes s) → b ≡ true → r ≡ say_of (fault (links_of c s) (marks_of c s)) → r ≡ checked_links c s
   unfolding checked_links
-  links-fit {b} e q x = rw (sym e, not-false b q) x
+  links-fit {b} e q x = rw (sym e, q) x
 
   pub points-short : (p : ℕ) → leb (3 * c.v) p ≡ false → Unsound ShortSlice ≡ checked c s p
   unfolding checked fits_with

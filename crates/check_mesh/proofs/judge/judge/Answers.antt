@@ -11,7 +11,7 @@ vertices_linked-v1-requires c = record { items_fit = c.requires.items_fit; ne_in
 
 pub returns-then-v1-nv : goal.returns-then-v1-nv
 returns-then-v1-nv c = says-broken (links_at c.args.nv c.args.ne c.args.nf c.args.outs.now c.args.edges.now c.args.faces.now) (marks_at c.args.vmarks.now c.args.emarks.now c.args.fmarks.now) c.unsound.ensures
-    (broken_at _ c.if-v1-nv.true c.vertices_linked-v1.ensures (c.vertices_linked-v1.ensures.broken c.if-v1-nv.true) refl)
+    (broken_at _ c.if-v1-nv.true c.vertices_linked-v1.ensures.before (c.vertices_linked-v1.ensures.broken c.if-v1-nv.true) refl)
 
 pub halfedges_linked-h1-requires : goal.halfedges_linked-h1-requires
 halfedges_linked-h1-requires c = record { edges_fit = c.requires.edges_fit; nv_in_bounds = c.requires.items_fit.marks; nf_in_bounds = c.requires.items_fit_2.marks }
@@ -19,7 +19,7 @@ halfedges_linked-h1-requires c = record { edges_fit = c.requires.edges_fit; nv_i
 pub returns-then-h1-n : goal.returns-then-h1-n
 returns-then-h1-n c = says-broken (links_at c.args.nv c.args.ne c.args.nf c.args.outs.now c.args.edges.now c.args.faces.now) (marks_at c.args.vmarks.now c.args.emarks.now c.args.fmarks.now) c.unsound-then-h1-n.ensures
     (passed (found_all c.vertices_linked-v1.ensures c.if-v1-nv.false)
-    (broken_at _ c.if-h1-n.true c.halfedges_linked-h1.ensures (c.halfedges_linked-h1.ensures.broken c.if-h1-n.true) refl))
+    (broken_at _ c.if-h1-n.true c.halfedges_linked-h1.ensures.before (c.halfedges_linked-h1.ensures.broken c.if-h1-n.true) refl))
 
 pub faces_linked-f1-requires : goal.faces_linked-f1-requires
 faces_linked-f1-requires c = record { items_fit = c.requires.items_fit_2; ne_in_bounds = c.requires.edges_fit.marks }
@@ -28,7 +28,7 @@ pub returns-then-f1-nf : goal.returns-then-f1-nf
 returns-then-f1-nf c = says-broken (links_at c.args.nv c.args.ne c.args.nf c.args.outs.now c.args.edges.now c.args.faces.now) (marks_at c.args.vmarks.now c.args.emarks.now c.args.fmarks.now) c.unsound-then-f1-nf.ensures
     (passed (found_all c.vertices_linked-v1.ensures c.if-v1-nv.false)
     (passed (found_all c.halfedges_linked-h1.ensures c.if-h1-n.false)
-    (broken_at _ c.if-f1-nf.true c.faces_linked-f1.ensures (c.faces_linked-f1.ensures.broken c.if-f1-nf.true) refl)))
+    (broken_at _ c.if-f1-nf.true c.faces_linked-f1.ensures.before (c.faces_linked-f1.ensures.broken c.if-f1-nf.true) refl)))
 
 pub all_undo-r2-requires : goal.all_undo-r2-requires
 all_undo-r2-requires c = record { edges_fit = c.requires.edges_fit; chained = (chained-of (found_all c.halfedges_linked-h1.ensures c.if-h1-n.false)) }
@@ -38,7 +38,7 @@ returns-then-r2-n c = says-broken (links_at c.args.nv c.args.ne c.args.nf c.args
     (passed (found_all c.vertices_linked-v1.ensures c.if-v1-nv.false)
     (passed (found_all c.halfedges_linked-h1.ensures c.if-h1-n.false)
     (passed (found_all c.faces_linked-f1.ensures c.if-f1-nf.false)
-    (broken_at _ c.if-r2-n.true c.all_undo-r2.ensures (c.all_undo-r2.ensures.broken c.if-r2-n.true) refl))))
+    (broken_at _ c.if-r2-n.true c.all_undo-r2.ensures.before (c.all_undo-r2.ensures.broken c.if-r2-n.true) refl))))
 
 pub all_sewn-r3-requires : goal.all_sewn-r3-requires
 all_sewn-r3-requires c = record { edges_fit = c.requires.edges_fit; chained = (chained-of (found_all c.halfedges_linked-h1.ensures c.if-h1-n.false)) }
@@ -49,7 +49,7 @@ returns-then-r3-n c = says-broken (links_at c.args.nv c.args.ne c.args.nf c.args
     (passed (found_all c.halfedges_linked-h1.ensures c.if-h1-n.false)
     (passed (found_all c.faces_linked-f1.ensures c.if-f1-nf.false)
     (passed (found_all c.all_undo-r2.ensures c.if-r2-n.false)
-    (broken_at _ c.if-r3-n.true c.all_sewn-r3.ensures (c.all_sewn-r3.ensures.broken c.if-r3-n.true) refl)))))
+    (broken_at _ c.if-r3-n.true c.all_sewn-r3.ensures.before (c.all_sewn-r3.ensures.broken c.if-r3-n.true) refl)))))
 
 pub judge_rounds-requires : goal.judge_rounds-requires
 judge_rounds-requires c = record { items_fit = c.requires.items_fit; edges_fit = c.requires.edges_fit; items_fit_2 = c.requires.items_fit_2; sewn = (sewn-of (found_all c.halfedges_linked-h1.ensures c.if-h1-n.false) (found_all c.all_undo-r2.ensures c.if-r2-n.false) (found_all c.all_sewn-r3.ensures c.if-r3-n.false)); faced = (faced-of (found_all c.halfedges_linked-h1.ensures c.if-h1-n.false) (found_all c.faces_linked-f1.ensures c.if-f1-nf.false)); rooted = (rooted-of (found_all c.halfedges_linked-h1.ensures c.if-h1-n.false) (found_all c.vertices_linked-v1.ensures c.if-v1-nv.false)) }

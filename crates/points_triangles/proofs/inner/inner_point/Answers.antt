@@ -4,7 +4,7 @@ use borrow.Author.Rules.{rules}
 use Rattle.points_triangles.proofs.inner.inner_point.Goals as goal
 
 pub returns-in-Row : goal.returns-in-Row
-returns-in-Row c = inner-row _ _ _ _ _ c.turn_heads-s.ensures (sym c.find.ensures ∙ c.row-1.given.1)
+returns-in-Row c = inner-row _ _ _ _ _ c.turn_heads-s.ensures (sym c.find.ensures ∙ c.in-Row.is)
 
 pub returns-in-TooMany : goal.returns-in-TooMany
-returns-in-TooMany c = inner-none _ _ _ _ _ c.turn_heads-s.ensures (sym c.find.ensures ∙ c.enum_told-1.given.1)
+returns-in-TooMany c = inner-none _ _ _ _ _ c.turn_heads-s.ensures (sym c.find.ensures ∙ c.in-TooMany.is)

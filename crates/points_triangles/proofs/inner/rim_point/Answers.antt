@@ -17,10 +17,10 @@ load_point-b-requires c = let q = c.requires.halves.head_in _ (partner-lt _ c.ar
     rw (c.tail.ensures, c.prev.ensures) (omega (arith, c.requires.v_in_bounds))
 
 pub returns-in-Stay : goal.returns-in-Stay
-returns-in-Stay c = rw c.enum_told-1.given.1
+returns-in-Stay c = rw c.in-Stay.is
 
 pub returns-in-Eighths : goal.returns-in-Eighths
-returns-in-Eighths c = rw c.enum_told-in-Eighths-1.given.1 (c.loop_rim.ensures ∙ rw (c.load_point-a.ensures, c.head.ensures, c.load_point-b.ensures, c.tail.ensures, c.prev.ensures))
+returns-in-Eighths c = rw c.in-Eighths.is (c.loop_rim.ensures ∙ rw (c.load_point-a.ensures, c.head.ensures, c.load_point-b.ensures, c.tail.ensures, c.prev.ensures))
 
 pub returns-in-TwentySevenths : goal.returns-in-TwentySevenths
-returns-in-TwentySevenths c = rw c.enum_told-in-TwentySevenths-1.given.1 (c.sqrt_rim.ensures ∙ rw (c.load_point-a.ensures, c.head.ensures, c.load_point-b.ensures, c.tail.ensures, c.prev.ensures))
+returns-in-TwentySevenths c = rw c.in-TwentySevenths.is (c.sqrt_rim.ensures ∙ rw (c.load_point-a.ensures, c.head.ensures, c.load_point-b.ensures, c.tail.ensures, c.prev.ensures))

@@ -12,7 +12,7 @@ put_answers-requires c = let pre = c.requires in
     let len = length-laid _ _ _ c.put_vertices.ensures.content in record { halves = pre.halves; starts = pre.starts; v_in_bounds = pre.v_in_bounds; f_in_bounds = omega (arith, pre.f_in_bounds) }
 
 pub returns-in-Nobody : goal.returns-in-Nobody
-returns-in-Nobody c = sqrt-moved _ _ _ _ _ _ _ c.requires.outs _ c.sqrt_rule.ensures c.sqrt_table.ensures c.put_vertices.ensures c.enum_told-1.given.1 c.put_answers.ensures
+returns-in-Nobody c = sqrt-moved _ _ _ _ _ _ _ c.requires.outs _ c.sqrt_rule.ensures c.sqrt_table.ensures c.put_vertices.ensures c.in-Nobody.is c.put_answers.ensures
 
 pub returns-in-Vertex : goal.returns-in-Vertex
-returns-in-Vertex c = sqrt-refused _ _ _ _ _ _ _ c.requires.outs _ c.sqrt_rule.ensures c.sqrt_table.ensures c.put_vertices.ensures _ c.v-1.given.1
+returns-in-Vertex c = sqrt-refused _ _ _ _ _ _ _ c.requires.outs _ c.sqrt_rule.ensures c.sqrt_table.ensures c.put_vertices.ensures _ c.in-Vertex.is

@@ -1,0 +1,5 @@
+use borrow.Author.Rules.{rules}
+use Rattle.links_sqrt3.proofs.answers.store_pair.Goals as goal
+
+pub returns : goal.returns
+returns c = cc
