@@ -230,16 +230,16 @@ found_none none e = refl
 found_none (some x) e = absurd (let z : ◌≡◌ {A = ℕ} 0 1 = cc in omega arith)
 
 -- with the flag false nobody looks
-pub side-off : (flag : Bool) (o : Option ℕ) → not flag ≡ true → Nowhere ≡ found (if flag o none)
-side-off true o e = absurd (true≢false (sym e))
+pub side-off : (flag : Bool) (o : Option ℕ) → flag ≡ false → Nowhere ≡ found (if flag o none)
+side-off true o e = absurd (true≢false e)
 side-off false o e = refl
 
-pub side-there : (flag : Bool) (f e : ℕ) (es fs : List ℕ) {s : ℕ} {r : Found} → not flag ≡ false → s ≡ link_at fs f → r ≡ found (first_of (side_at es) (loop_at es e s))
+pub side-there : (flag : Bool) (f e : ℕ) (es fs : List ℕ) {s : ℕ} {r : Found} → flag ≡ true → s ≡ link_at fs f → r ≡ found (first_of (side_at es) (loop_at es e s))
     → r ≡ found (if flag (rim_side f (held 0 e 0 [] es fs)) none)
 unfolding rim_side loop
 side-there true f e es fs a p q =
     q ∙ ap (λ (s : ℕ). found (first_of (side_at es) (loop_at es e s))) p ∙ ap found (sym (rim-of (held 0 e 0 [] es fs) (loop_at es e (link_at fs f))))
-side-there false f e es fs a p q = absurd (true≢false a)
+side-there false f e es fs a p q = absurd (true≢false (sym a))
 
 -- a side is told by edges and faces
 side-bare : (flag : Bool) (f : ℕ) (m : Links) → if flag (rim_side f (held 0 m.ne 0 [] m.edges m.faces)) none ≡ side_by flag f m

@@ -1,0 +1,23 @@
+use Prim.Native.Nat.{◌*◌, ◌-◌}
+use mathlib.Core.Path.{◌≡◌, ◌∙◌}
+use borrow.Author.Rules.{rules}
+use lib.ListN.{length, take}
+use Rattle.links_edits.specs.Held.{given}
+use Rattle.call_steps.proofs.RunLaws.{Running, lengths, run-start, run-ready, run-next, run-stops, run-done}
+use Rattle.call_steps.proofs.passes.run.Goals as goal
+
+pub loop-done-init : goal.loop-done-init
+loop-done-init c = run-start c.requires
+
+pub pass-requires : goal.pass-requires
+pass-requires c = run-ready c.loop-done.invariant c.loop-done-test.true
+
+pub returns-in-NoWeightAt : goal.returns-in-NoWeightAt
+returns-in-NoWeightAt c = run-stops c.loop-done.invariant c.loop-done-test.true (rw c.in-NoWeightAt.is at c.pass.ensures)
+
+pub loop-done-preserved : goal.loop-done-preserved
+loop-done-preserved c = let w : length c.pass.new.1.1.1.1.1.1.1.0 ≡ length c.loop-done.work = c.pass.auto.1.1.1.1.1.1.1.0 in
+    run-next c.loop-done.invariant c.loop-done-test.true (rw c.in-On.is at c.pass.ensures) c.turn-next.ensures w
+
+pub returns : goal.returns
+returns c = run-done c.loop-done.invariant c.loop-done-test.false

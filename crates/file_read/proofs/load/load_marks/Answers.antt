@@ -1,0 +1,21 @@
+use mathlib.Core.Path.{◌≡◌, refl}
+use lib.ListN.{length-set}
+use native.Mathlib.Omega.{arith}
+use borrow.Author.Rules.{rules}
+use Prim.Native.Nat.{◌-◌}
+use lib.ListN.{length}
+use Rattle.file_read.specs.Format.{bytes}
+use Rattle.file_read.proofs.FillLaws.{Laid, laid_none, laid_on, laid-all}
+use Rattle.file_read.proofs.load.load_marks.Goals as goal
+
+pub loop-i-init : goal.loop-i-init
+loop-i-init c = (refl, laid_none)
+
+pub loop-i-smaller : goal.loop-i-smaller
+loop-i-smaller c = simp length-set (omega arith)
+
+pub loop-i-preserved : goal.loop-i-preserved
+loop-i-preserved c = (simp length-set c.loop-i.invariant.0, laid_on c.loop-i.invariant.1 c.loop-i-test.true c.mark_of.ensures)
+
+pub returns : goal.returns
+returns c = laid-all c.loop-i.invariant.1 c.loop-i-test.false
