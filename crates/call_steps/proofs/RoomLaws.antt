@@ -71,7 +71,11 @@ module _ (kind : Kind) (k : ℕ) (flag : Bool) (z : k ≢ 0) (c : Counts) (es : 
       of_some S (suc k) x n = refl
 
   pub startable : Faced (tallied (amounts_at c es)) → Whole (tallied u) × Faced (tallied u)
-  startable f = rw (d, e) (whole_ready kind (tallied (amounts_at c es)) f (amounts-whole c es), ((laws-of kind).ready_step (tallied (amounts_at c es)) f).faced)
+  startable f =
+      let p : tallied u ≡ (scheme_of kind).ready (tallied (amounts_at c es)) = d ∙ ap (λ (x : Amounts). (scheme_of kind).ready (tallied x)) e in (
+        subst (λ (x : Tally). Whole x) (sym p) (whole_ready kind (tallied (amounts_at c es)) f (amounts-whole c es)),
+        subst (λ (x : Tally). Faced x) (sym p) ((laws-of kind).ready_step (tallied (amounts_at c es)) f).faced,
+      )
 
   pub reached : {r : Ahead} {a : Amounts} {next : Bool} → Told (scheme_of kind) (k - 1) flag (tallied u) r → r ≡ Reached a next →
       Within (tallied a) × AheadOf (scheme_of kind) (k - 1) 0 flag next (readied (scheme_of kind) k (tallied (amounts_at c es))) (tallied a)

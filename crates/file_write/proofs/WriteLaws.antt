@@ -5,7 +5,7 @@ use mathlib.Core.Bool.{Bool, true, false, not, ◌&&◌}
 use mathlib.Core.List.{List, ◌++◌}
 use mathlib.Core.Option.{Option, none, some}
 use native.Mathlib.Omega.{arith}
-use borrow.Author.Tests.{not-true, le-leb, lt-leb, leb-true}
+use borrow.Author.Tests.{le-leb, lt-leb, leb-true}
 use lib.Dec.{leb}
 use lib.ListN.{length, get_or, take, length-append}
 use lib.Seq.{length-take-le, get_or-take}
@@ -40,7 +40,7 @@ pub finites : (ps : List Float) (n : ℕ) → n ≤ length ps → all_finite (ta
 finites ps n b e = record { at = all-at (λ i. finite (get_or ps i nan)) n (finite-front ps n b ∙ e) }
 
 -- ---- the sizes
-pub held : (c : Counts) (s : Slices) {r : Bool} → r ≡ fits c (sizes s) → not r ≡ false → Held c
+pub held : (c : Counts) (s : Slices) {r : Bool} → r ≡ fits c (sizes s) → r ≡ true → Held c
 held c s e q = let k = fitting c s e q in record { v = k.vertices.few; e = k.halfedges.few; f = k.sides.few }
 
 sized : (c : Counts) (s : Slices) (n : ℕ) → fits c (sizes s) ≡ true → 3 * c.v ≤ n → fits_with c (sizes s) n ≡ true
@@ -48,9 +48,9 @@ unfolding fits_with
 sized c s n e b = rw (e, le-leb _ _ b)
 
 -- ---- the ways to the answer
-pub short : (c : Counts) (s : Slices) (ps : List Float) (room : ℕ) {r : Bool} → r ≡ fits c (sizes s) → not r ≡ true → Refused ShortSlice ≡ writing (write_refusal c s ps room) (file_end c)
+pub short : (c : Counts) (s : Slices) (ps : List Float) (room : ℕ) {r : Bool} → r ≡ fits c (sizes s) → r ≡ false → Refused ShortSlice ≡ writing (write_refusal c s ps room) (file_end c)
 unfolding write_refusal fits_with
-short c s ps room {r} e q = rw (sym e ∙ not-true r q)
+short c s ps room {r} e q = rw (sym e ∙ q)
 
 pub few-points : (c : Counts) (s : Slices) (ps : List Float) (room : ℕ) → fits c (sizes s) ≡ true → length ps < 3 * c.v → Refused ShortSlice ≡ writing (write_refusal c s ps room) (file_end c)
 unfolding write_refusal fits_with

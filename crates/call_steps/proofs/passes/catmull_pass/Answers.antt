@@ -13,7 +13,7 @@ pub copy_numbers-requires : goal.copy_numbers-requires
 copy_numbers-requires c = let r = c.requires in
     let e = c.catmull_links-d.ensures.value in
     let a = after-work r e in
-    let k = c.new_points.auto.outs in record { n_in_bounds = omega arith; n_in_bounds_2 = after-points r e }
+    let k = c.new_points.auto.work in record { n_in_bounds = omega arith; n_in_bounds_2 = after-points r e }
 
 pub returns : goal.returns
 returns c = let l = c.catmull_links-d.ensures in

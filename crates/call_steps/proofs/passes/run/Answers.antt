@@ -16,7 +16,7 @@ pub returns-in-NoWeightAt : goal.returns-in-NoWeightAt
 returns-in-NoWeightAt c = run-stops c.loop-done.invariant c.loop-done-test.true (rw c.in-NoWeightAt.is at c.pass.ensures)
 
 pub loop-done-preserved : goal.loop-done-preserved
-loop-done-preserved c = let w : length c.pass.new.1.1.1.1.1.1.1.0 ≡ length c.loop-done.work = c.pass.auto.1.1.1.1.1.1.1.0 in
+loop-done-preserved c = let w : length c.pass.new.work ≡ length c.loop-done.work = c.pass.auto.work in
     run-next c.loop-done.invariant c.loop-done-test.true (rw c.in-On.is at c.pass.ensures) c.turn-next.ensures w
 
 pub returns : goal.returns

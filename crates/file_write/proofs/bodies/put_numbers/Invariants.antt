@@ -1,0 +1,15 @@
+use mathlib.Core.Path.{refl}
+use lib.Ieee.{nan}
+use native.Mathlib.Omega.{arith}
+use borrow.Author.Rules.{rules}
+use Prim.Native.Nat.{◌-◌}
+use Rattle.file_write.specs.Puts.{number_bytes}
+use Rattle.text.proofs.PutLaws.{Puts, puts_none, puts-on}
+use Rattle.file_write.proofs.PutLaws.{wide-number, numbers-done}
+use Rattle.file_write.proofs.bodies.put_numbers.Given as goal
+
+abbrev pub invariant-loop-i : goal.invariant-loop-i
+invariant-loop-i s = Puts number_bytes s.l s.n s.at s.initial.file s.i s.file
+
+abbrev pub decreases-loop-i : goal.decreases-loop-i
+decreases-loop-i l = l.n - l.i
