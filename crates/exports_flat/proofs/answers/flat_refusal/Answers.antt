@@ -1,0 +1,6 @@
+use mathlib.Core.Path.{refl}
+use borrow.Author.Rules.{rules}
+use Rattle.exports_flat.proofs.answers.flat_refusal.Goals as goal
+
+pub returns : goal.returns
+returns c = rw (c.in_fields.ensures, c.in_numbers.ensures) refl
