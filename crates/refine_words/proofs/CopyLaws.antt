@@ -31,24 +31,24 @@ flag-copied false = refl
 abbrev digit : ℕ → ℕ
 digit d = 48 + d
 
-is_digit : (d : ℕ) → d < 10 → is_digit (digit d) ≡ true
-is_digit d b = a-digit (digit d) (omega arith) (omega arith)
+is_digit_lem : (d : ℕ) → d < 10 → is_digit (digit d) ≡ true
+is_digit_lem d b = a-digit (digit d) (omega arith) (omega arith)
 
 one-digit : (a : ℕ) → a < 10 → passes_asked (digit a ∷ []) ≡ Passes a
 unfolding passes_asked all value
-one-digit a x = let v : 10 * 0 + (digit a - 48) ≡ a = omega arith in rw (is_digit a x, v) refl
+one-digit a x = let v : 10 * 0 + (digit a - 48) ≡ a = omega arith in rw (is_digit_lem a x, v) refl
 
 two_digits : (a b : ℕ) → a < 10 → b < 10 → passes_asked (digit a ∷ digit b ∷ []) ≡ Passes (10 * a + b)
 unfolding passes_asked all value
 two_digits a b x y =
     let v : 10 * (10 * 0 + (digit a - 48)) + (digit b - 48) ≡ 10 * a + b = omega arith in
-    rw (is_digit a x, is_digit b y, v) refl
+    rw (is_digit_lem a x, is_digit_lem b y, v) refl
 
 three-digits : (a b c : ℕ) → a < 10 → b < 10 → c < 10 → passes_asked (digit a ∷ digit b ∷ digit c ∷ []) ≡ Passes (10 * (10 * a + b) + c)
 unfolding passes_asked all value
 three-digits a b c x y z =
     let v : 10 * (10 * (10 * 0 + (digit a - 48)) + (digit b - 48)) + (digit c - 48) ≡ 10 * (10 * a + b) + c = omega arith in
-    rw (is_digit a x, is_digit b y, is_digit c z, v) refl
+    rw (is_digit_lem a x, is_digit_lem b y, is_digit_lem c z, v) refl
 
 -- any number below 1,000, as a card has it
 pub passes-copied : (n : ℕ) → n < 1000 → passes_asked (decimal n) ≡ Passes n

@@ -5,14 +5,11 @@ use mathlib.Core.Bool.{Bool}
 use mathlib.Core.List.{List, [], ◌∷◌, ◌++◌}
 use native.Mathlib.Omega.{arith}
 use lib.ListN.{length}
-use types.Run.{OneOf, miss}
-use denote.Enum.Declared.{tag_of}
 use Rattle.scope.specs.declared.records.Counts.{Counts}
 use Rattle.scope.specs.declared.answers.Fault.{Fault}
 use Rattle.scope.specs.declared.answers.Place.{Place}
 use Rattle.scope.specs.declared.answers.Refusal.{Refusal}
 use Rattle.scope.specs.declared.answers.Refusal.TheVariants.{TooManyPasses, ShortSlice, NotConsistent, MarkedDeleted, NoRoom, NoWeight, BadHandle, CannotInsertEdge, HalfedgesNotInTheSameLoop, NotDeletedFace, ComplexVertex, CannotSwapBoundaryEdge, WouldBreak, BadContents, NotFinite}
-use Rattle.scope.specs.contracts.answers.Refusal.{the_type}
 use Rattle.scope.specs.Lists.{over}
 use Rattle.scope.specs.Answers.{said_of}
 use Rattle.mesh.proofs.SliceLaws.{length_over}
@@ -84,18 +81,18 @@ pub weight-put : {at : ℕ} {old : List ℕ} {q : ℕ} {s : List ℕ} (pass v : 
 unfolding where_text
 weight-put pass v w = w
 
--- the refusals that name no place, by the positions of their variants
-abbrev no_place : List ℕ
-no_place = 0 ∷ 1 ∷ 4 ∷ 6 ∷ 7 ∷ 8 ∷ 9 ∷ 10 ∷ 11 ∷ 12 ∷ 13 ∷ 14 ∷ []
+-- a refusal without a place
+abbrev Placeless : Refusal → Type 0
+Placeless r = ((x : Fault) → r ≡ NotConsistent x → ⊥) × ((p : Place) → r ≡ MarkedDeleted p → ⊥) × ((a b : ℕ) → r ≡ NoWeight a b → ⊥)
 
-unnamed : (r : Refusal) → OneOf no_place (tag_of the_type r) → where_text r ≡ []
+unnamed : (r : Refusal) → Placeless r → where_text r ≡ []
 unfolding where_text
 unnamed TooManyPasses h = refl
 unnamed ShortSlice h = refl
-unnamed (NotConsistent x) h = absurd (miss no_place 2 tt h)
-unnamed (MarkedDeleted p) h = absurd (miss no_place 3 tt h)
+unnamed (NotConsistent x) h = absurd (h.0 x refl)
+unnamed (MarkedDeleted p) h = absurd (h.1 p refl)
 unnamed NoRoom h = refl
-unnamed (NoWeight pass v) h = absurd (miss no_place 5 tt h)
+unnamed (NoWeight pass v) h = absurd (h.2 pass v refl)
 unnamed BadHandle h = refl
 unnamed CannotInsertEdge h = refl
 unnamed HalfedgesNotInTheSameLoop h = refl
@@ -106,5 +103,5 @@ unnamed WouldBreak h = refl
 unnamed BadContents h = refl
 unnamed NotFinite h = refl
 
-pub nowhere-put : (at : ℕ) (old : List ℕ) (r : Refusal) → OneOf no_place (tag_of the_type r) → Written at old (where_text r) at old
-nowhere-put at old r h = rw (unnamed r h) record { text = over_none at old; place = omega arith }
+pub nowhere-put : (at : ℕ) (old : List ℕ) (r : Refusal) → ((x : Fault) → r ≡ NotConsistent x → ⊥) → ((p : Place) → r ≡ MarkedDeleted p → ⊥) → ((a b : ℕ) → r ≡ NoWeight a b → ⊥) → Written at old (where_text r) at old
+nowhere-put at old r h k l = rw (unnamed r (h, k, l)) record { text = over_none at old; place = omega arith }

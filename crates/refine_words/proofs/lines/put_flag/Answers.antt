@@ -4,7 +4,7 @@ use Rattle.refine_words.proofs.LineLaws.{put_of, answered}
 use Rattle.refine_words.proofs.lines.put_flag.Goals as goal
 
 pub returns-then-flag : goal.returns-then-flag
-returns-then-flag c = let a = c.put.ensures in rw c.if-flag.true (let r = answered (put_of a) (omega arith) in record { out_after = r.0; value = r.1.0; upper_bound = r.1.1 })
+returns-then-flag c = rw c.if-flag.true (let r = (put_of (c.put.ensures.out_after, c.put.ensures.value)) in record { out_after = r.text; value = r.place; upper_bound = omega arith })
 
 pub returns : goal.returns
-returns c = let a = c.put-2.ensures in rw c.if-flag.false (let r = answered (put_of a) (omega arith) in record { out_after = r.0; value = r.1.0; upper_bound = r.1.1 })
+returns c = rw c.if-flag.false (let r = (put_of (c.put-2.ensures.out_after, c.put-2.ensures.value)) in record { out_after = r.text; value = r.place; upper_bound = omega arith })

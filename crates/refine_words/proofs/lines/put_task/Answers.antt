@@ -4,4 +4,4 @@ use Rattle.refine_words.proofs.LineLaws.{◌⨾◌, put_of, bound_of, answered, 
 use Rattle.refine_words.proofs.lines.put_task.Goals as goal
 
 pub returns : goal.returns
-returns c = let a = c.put-a.ensures in let b = c.put_scheme-b.ensures in let d = c.put_field-c.ensures in let e = c.put-d.ensures in let f = c.put_flag-e.ensures in let g = c.put-f.ensures in let h = c.put_flag.ensures in let r = answered (task-put _ _ _ _ (put_of a ⨾ bound_of b ⨾ bound_of d ⨾ put_of e ⨾ bound_of f ⨾ put_of g ⨾ bound_of h)) (omega arith) in record { out_after = r.0; value = r.1.0; upper_bound = r.1.1 }
+returns c = let r = answered (task-put _ _ _ _ (put_of (c.put-a.ensures.out_after, c.put-a.ensures.value) ⨾ bound_of (c.put_scheme-b.ensures.out_after, (c.put_scheme-b.ensures.value, c.put_scheme-b.ensures.upper_bound)) ⨾ bound_of (c.put_field-c.ensures.out_after, (c.put_field-c.ensures.value, c.put_field-c.ensures.upper_bound)) ⨾ put_of (c.put-d.ensures.out_after, c.put-d.ensures.value) ⨾ bound_of (c.put_flag-e.ensures.out_after, (c.put_flag-e.ensures.value, c.put_flag-e.ensures.upper_bound)) ⨾ put_of (c.put-f.ensures.out_after, c.put-f.ensures.value) ⨾ bound_of (c.put_flag.ensures.out_after, (c.put_flag.ensures.value, c.put_flag.ensures.upper_bound)))) (omega arith) in record { out_after = r.0; value = r.1.0; upper_bound = r.1.1 }
