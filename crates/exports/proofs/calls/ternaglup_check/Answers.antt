@@ -1,0 +1,5 @@
+use borrow.Author.Rules.{rules}
+use Rattle.exports.proofs.calls.ternaglup_check.Goals as goal
+
+pub returns : goal.returns
+returns c = cc
