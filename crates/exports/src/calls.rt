@@ -23,8 +23,7 @@ use file_write::write::write;
 use scope::records::Counts;
 
 // The consistency check of a mesh of v vertices, e edges and f faces (document 01, section 2): answers 0, 2 and 3. It changes nothing.
-#[unsafe(no_mangle)]
-pub extern "C" fn ternaglup_check(
+pub fn ternaglup_check(
     outs: &[u32],
     edges: &[u32],
     faces: &[u32],
@@ -43,8 +42,7 @@ pub extern "C" fn ternaglup_check(
 }
 
 // The reader of a mesh file (document 01, section 5), for any bytes: answers 0, 15, 2, 16 and 3. The slices are zero past what is read, wholly zero after a refusal.
-#[unsafe(no_mangle)]
-pub extern "C" fn ternaglup_read(
+pub fn ternaglup_read(
     file: &[u8],
     outs: &mut [u32],
     edges: &mut [u32],
@@ -61,8 +59,7 @@ pub extern "C" fn ternaglup_read(
 }
 
 // The writer of a mesh file, for every mesh: answers 0, 2, 16 and 5. A refusal writes nothing; past the file's end the slice is as it was.
-#[unsafe(no_mangle)]
-pub extern "C" fn ternaglup_write(
+pub fn ternaglup_write(
     outs: &[u32],
     edges: &[u32],
     faces: &[u32],
@@ -84,8 +81,7 @@ pub extern "C" fn ternaglup_write(
 
 // So many Catmull-Clark passes of a mesh into another (document 01, sections 3 and 4): answers 0 to 5. An update that is not 0 moves the old points. Answers 1 to 4
 // leave everything as handed in, 5 leaves zeros; when done there is the result, then zeros, and the work slice is zero.
-#[unsafe(no_mangle)]
-pub extern "C" fn ternaglup_catmull(
+pub fn ternaglup_catmull(
     passes: u32,
     update: u32,
     outs: &[u32],
