@@ -1,36 +1,42 @@
 // The counter's line about each of eleven files that its arguments name.
 
 #![tactic(auto)]
-use libc::STDOUT_FILENO;
 
-fn run(i: usize) {
-    let mut path = io::buffer();
-    let n = os::arg(i, &mut path);
-    let fd = os::open_read(&path[..n]);
-    if fd < 0 {
-        os::fail(&path[..n]);
-        return;
+use std::io;
+use std::io::Read;
+use std::rt::{Env, Files};
+
+// A file that is not opened gets a line on standard error.
+fn run<R: Env + Files + Print, E: Print>(rt: &R, err: &E, i: usize) -> io::Result<()> {
+    let mut path = host::buffer();
+    let n = host::argument(rt, i, &mut path);
+    match host::open(rt, &path[..n]) {
+        Ok(file) => count(rt, &path[..n], file),
+        Err(error) => host::tell_failure(err, &path[..n], &error),
     }
-    let mut file = count_line::whole::new_file();
-    let size = io::read_full(fd, &mut file);
-    libc::close(fd);
-    let mut line = [0u8; 167];
-    let k = count_line::whole::say(&file[..size], &mut line);
-    io::write_all(STDOUT_FILENO, &path[..n]);
-    io::write_all(STDOUT_FILENO, b": ");
-    io::write_all(STDOUT_FILENO, &line[..k]);
 }
 
-fn main() {
-    run(1);
-    run(2);
-    run(3);
-    run(4);
-    run(5);
-    run(6);
-    run(7);
-    run(8);
-    run(9);
-    run(10);
-    run(11);
+fn count<P: Print, F: Read + Drop>(out: &P, path: &[u8], mut from: F) -> io::Result<()> {
+    let mut file = count_line::whole::new_file();
+    let size = host::read_full(&mut from, &mut file);
+    let mut line = [0u8; 167];
+    let k = count_line::whole::say(&file[..size], &mut line);
+    out.write_all(path)?;
+    out.write_all(b": ")?;
+    out.write_all(&line[..k])
+}
+
+fn main(rt: HostRuntime) -> io::Result<()> {
+    let err = rt.stderr();
+    run(&rt, &err, 1)?;
+    run(&rt, &err, 2)?;
+    run(&rt, &err, 3)?;
+    run(&rt, &err, 4)?;
+    run(&rt, &err, 5)?;
+    run(&rt, &err, 6)?;
+    run(&rt, &err, 7)?;
+    run(&rt, &err, 8)?;
+    run(&rt, &err, 9)?;
+    run(&rt, &err, 10)?;
+    run(&rt, &err, 11)
 }

@@ -1,10 +1,13 @@
 // The counter on an input of one byte more than it takes: refused before all else.
 
 #![tactic(auto)]
-fn main() {
+
+use std::io;
+
+fn main(rt: HostRuntime) -> io::Result<()> {
     let mut file = count_line::whole::new_file();
-    let n = io::read_full(0, &mut file);
+    let n = host::read_full(&mut rt.stdin(), &mut file);
     let mut line = [0u8; 167];
     let k = count_line::whole::say(&file[..n], &mut line);
-    io::write_all(1, &line[..k]);
+    rt.write_all(&line[..k])
 }
