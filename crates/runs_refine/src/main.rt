@@ -3,69 +3,75 @@
 
 #![tactic(auto)]
 
-ghost use Rattle.io.specs.Counts.{IsPrefixLen};
+ghost use Rattle.std.specs.Prelude.{◌≡◌, ◌≤◌, length, take};
 
 use call_room::kind::Kind;
-use libc::STDOUT_FILENO;
 use refine_job::Refined;
 use refine_room::run;
 use refine_words::words::same_bytes;
+use std::io;
+use std::rt::{Env, Files};
 
-fn load(path: &[u8], buf: &mut [u8]) -> usize
-    ensures { IsPrefixLen result buf.new }
+// A file that is not opened counts as one of no bytes.
+fn load<R: Files>(rt: &R, path: &[u8], buf: &mut [u8]) -> usize
+    ensures upper_bound { result ≤ length buf.new }
+    ensures value { result ≡ length (take result buf.new) }
 {
-    let fd = os::open_read(path);
-    let n = io::read_full(fd, buf);
-    libc::close(fd);
-    n
+    match host::open(rt, path) {
+        Ok(mut file) => host::read_full(&mut file, buf),
+        Err(_) => 0,
+    }
 }
 
-fn say(path: &[u8], flag: bool, same: bool, size: usize) {
-    io::write_all(STDOUT_FILENO, path);
+fn say<P: Print>(out: &P, path: &[u8], flag: bool, same: bool, size: usize) -> io::Result<()> {
+    out.write_all(path)?;
     if flag {
-        io::write_all(STDOUT_FILENO, b" update: ");
+        out.write_all(b" update: ")?;
     } else {
-        io::write_all(STDOUT_FILENO, b" keep: ");
+        out.write_all(b" keep: ")?;
     }
     if same {
-        io::write_all(STDOUT_FILENO, b"the same ");
+        out.write_all(b"the same ")?;
     } else {
-        io::write_all(STDOUT_FILENO, b"not the same ");
+        out.write_all(b"not the same ")?;
     }
-    io::print_decimal(STDOUT_FILENO, size as u64);
-    io::write_all(STDOUT_FILENO, b" bytes\n");
+    out.print(size)?;
+    out.write_all(b" bytes\n")
 }
 
-fn compare(path: &[u8], flag: bool) {
-    let mut two = io::large_buffer();
-    let n = load(path, &mut two);
-    let mut one = io::large_buffer();
-    let m = load(path, &mut one);
+fn compare<R: Files + Print>(rt: &R, path: &[u8], flag: bool) -> io::Result<()> {
+    let mut two = host::large_buffer();
+    let n = load(rt, path, &mut two);
+    let mut one = host::large_buffer();
+    let m = load(rt, path, &mut one);
     let Refined::Written(size, _, _, _) = run(Kind::Catmull, 2, flag, &mut two, n) else {
-        say(path, flag, false, 0);
-        return;
+        return say(rt, path, flag, false, 0);
     };
     let Refined::Written(half, _, next, _) = run(Kind::Catmull, 1, flag, &mut one, m) else {
-        say(path, flag, false, 0);
-        return;
+        return say(rt, path, flag, false, 0);
     };
     let Refined::Written(whole, _, _, _) = run(Kind::Catmull, 1, next, &mut one, half) else {
-        say(path, flag, false, 0);
-        return;
+        return say(rt, path, flag, false, 0);
     };
-    say(path, flag, same_bytes(&two[..size], &one[..whole]), size);
+    say(
+        rt,
+        path,
+        flag,
+        same_bytes(&two[..size], &one[..whole]),
+        size,
+    )
 }
 
-fn both(i: usize) {
-    let mut path = io::buffer();
-    let n = os::arg(i, &mut path);
-    compare(&path[..n], true);
-    compare(&path[..n], false);
+fn both<R: Env + Files + Print>(rt: &R, i: usize) -> io::Result<()> {
+    let mut path = host::buffer();
+    let n = host::argument(rt, i, &mut path);
+    compare(rt, &path[..n], true)?;
+    compare(rt, &path[..n], false)
 }
 
-fn main() {
-    both(1);
-    both(2);
-    both(3);
-    both(4);
+fn main(rt: HostRuntime) -> io::Result<()> {
+    both(&rt, 1)?;
+    both(&rt, 2)?;
+    both(&rt, 3)?;
+    both(&rt, 4)
 }
