@@ -8,6 +8,8 @@ ghost use Rattle.std.specs.Prelude.{◌≡◌, ◌≤◌, length};
 use file_read::bytes::word;
 use file_read::read::{Reading, read};
 use scope::answers::{Refusal, in_numbers};
+use std::io;
+use std::io::Read;
 
 // Room for the largest recorded mesh.
 fn words() -> [u32; 1024]
@@ -28,23 +30,23 @@ fn numbers() -> [f64; 384]
     [0.0; 384]
 }
 
-fn print_value(x: u32) {
-    io::write_all(1, b" ");
-    io::print_decimal(1, x as u64);
+fn print_value<P: Print>(out: &P, x: u32) -> io::Result<()> {
+    out.write_all(b" ")?;
+    out.print(x)
 }
 
-fn print_refusal(r: Refusal) {
+fn print_refusal<P: Print>(out: &P, r: Refusal) -> io::Result<()> {
     let s = in_numbers(r);
-    io::print_decimal(1, s.number as u64);
+    out.print(s.number)?;
     if s.number == 3 {
-        print_value(s.values[0]);
-        print_value(s.values[1]);
-        print_value(s.values[2]);
+        print_value(out, s.values[0])?;
+        print_value(out, s.values[1])?;
+        print_value(out, s.values[2])?;
     }
-    io::write_all(1, b"\n");
+    out.write_all(b"\n")
 }
 
-fn print_answer(file: &[u8]) {
+fn print_answer<P: Print>(out: &P, file: &[u8]) -> io::Result<()> {
     let mut outs = words();
     let mut edges = words();
     let mut faces = words();
@@ -62,17 +64,15 @@ fn print_answer(file: &[u8]) {
         &mut fmarks,
         &mut points,
     ) {
-        Reading::Read(_) => {
-            io::write_all(1, b"0\n");
-        }
-        Reading::Refused(r) => print_refusal(r),
+        Reading::Read(_) => out.write_all(b"0\n"),
+        Reading::Refused(r) => print_refusal(out, r),
     }
 }
 
 // The length of the next file; more than there can be at the end of the input.
-fn next_length() -> usize {
+fn next_length<R: Read>(input: &mut R) -> usize {
     let mut four = [0u8; 4];
-    let got = io::read_full(0, &mut four);
+    let got = host::read_full(input, &mut four);
     if got < 4 {
         return 65536;
     }
@@ -80,37 +80,38 @@ fn next_length() -> usize {
 }
 
 // The next n bytes, if there are so many.
-fn fill(space: &mut [u8], n: usize) -> bool
+fn fill<R: Read>(input: &mut R, space: &mut [u8], n: usize) -> bool
     requires { n ≤ length space.old }
 {
-    let got = io::read_full(0, &mut space[..n]);
+    let got = host::read_full(input, &mut space[..n]);
     n <= got
 }
 
 // The next case, read into `space`; whether there was one.
-fn step(space: &mut [u8]) -> bool {
-    let n = next_length();
+fn step<R: Read, P: Print>(input: &mut R, out: &P, space: &mut [u8]) -> io::Result<bool> {
+    let n = next_length(input);
     if space.len() <= n {
-        return false;
+        return Ok(false);
     }
-    if !fill(space, n) {
-        return false;
+    if !fill(input, space, n) {
+        return Ok(false);
     }
-    print_answer(&space[..n]);
-    true
+    print_answer(out, &space[..n])?;
+    Ok(true)
 }
 
-fn run(space: &mut [u8]) {
+fn run<R: Read, P: Print>(input: &mut R, out: &P, space: &mut [u8]) -> io::Result<()> {
     let mut left: u32 = 1000;
     while 0 < left {
-        if !step(space) {
-            return;
+        if !step(input, out, space)? {
+            return Ok(());
         }
         left -= 1;
     }
+    Ok(())
 }
 
-fn main() {
-    let mut space = io::large_buffer();
-    run(&mut space);
+fn main(rt: HostRuntime) -> io::Result<()> {
+    let mut space = host::large_buffer();
+    run(&mut rt.stdin(), &rt, &mut space)
 }
