@@ -4,6 +4,8 @@ ghost use Rattle.std.specs.Prelude.{◌≤◌};
 
 use crate::input::{bits_in, read_part, word_in};
 use crate::junk::{junk_mark, junk_number, junk_word};
+use std::io;
+use std::io::Read;
 
 // A NaN has many bit patterns and a program cannot ask for them: any stands for this one.
 fn bits_of(x: f64) -> u64 {
@@ -85,24 +87,30 @@ fn number_place(part: &[u8], lent: usize, kept: bool, got: &[f64]) -> usize {
     i
 }
 
-// A line about a difference, if there is one: how many there are.
-pub fn report(name: &[u8], slice: &[u8], at: usize, end: usize) -> u32
+fn print_place<P: Print>(out: &P, name: &[u8], slice: &[u8], at: usize) -> io::Result<()> {
+    out.write_all(name)?;
+    out.write_all(b": ")?;
+    out.write_all(slice)?;
+    out.write_all(b" ")?;
+    out.print(at)?;
+    out.write_all(b"\n")
+}
+
+// A line about a difference, if there is one: how many there are. One whose line cannot be written counts too.
+pub fn report<P: Print>(out: &P, name: &[u8], slice: &[u8], at: usize, end: usize) -> u32
     ensures { result ≤ 1 }
 {
     if at == end {
         return 0;
     }
-    io::write_all(1, name);
-    io::write_all(1, b": ");
-    io::write_all(1, slice);
-    io::write_all(1, b" ");
-    io::print_decimal(1, at as u64);
-    io::write_all(1, b"\n");
+    let _ = print_place(out, name, slice, at);
     1
 }
 
 // The next part of the input is what `got` has to begin with; so many of it were lent.
-pub fn judge_words(
+pub fn judge_words<R: Read, P: Print>(
+    input: &mut R,
+    out: &P,
     name: &[u8],
     slice: &[u8],
     space: &mut [u8],
@@ -112,12 +120,14 @@ pub fn judge_words(
 ) -> u32
     ensures { result ≤ 1 }
 {
-    let n = read_part(space);
+    let n = read_part(input, space);
     let at = word_place(&space[..n], lent, kept, got);
-    report(name, slice, at, got.len())
+    report(out, name, slice, at, got.len())
 }
 
-pub fn judge_marks(
+pub fn judge_marks<R: Read, P: Print>(
+    input: &mut R,
+    out: &P,
     name: &[u8],
     slice: &[u8],
     space: &mut [u8],
@@ -127,12 +137,14 @@ pub fn judge_marks(
 ) -> u32
     ensures { result ≤ 1 }
 {
-    let n = read_part(space);
+    let n = read_part(input, space);
     let at = mark_place(&space[..n], lent, kept, got);
-    report(name, slice, at, got.len())
+    report(out, name, slice, at, got.len())
 }
 
-pub fn judge_numbers(
+pub fn judge_numbers<R: Read, P: Print>(
+    input: &mut R,
+    out: &P,
     name: &[u8],
     slice: &[u8],
     space: &mut [u8],
@@ -142,7 +154,7 @@ pub fn judge_numbers(
 ) -> u32
     ensures { result ≤ 1 }
 {
-    let n = read_part(space);
+    let n = read_part(input, space);
     let at = number_place(&space[..n], lent, kept, got);
-    report(name, slice, at, got.len())
+    report(out, name, slice, at, got.len())
 }

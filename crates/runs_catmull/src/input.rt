@@ -1,15 +1,15 @@
 // The parts of the input, and what is in them.
 
-ghost use Rattle.std.specs.Prelude.{◌<◌, ◌≤◌, length};
-ghost use Rattle.io.specs.Counts.{IsPrefixLen};
+ghost use Rattle.std.specs.Prelude.{◌≡◌, ◌<◌, ◌≤◌, length, take};
 
 use file_read::bytes::{bits, finite_at, number, word};
 use file_read::load::{load_marks, load_words};
+use std::io::Read;
 
 // The length of the next part, 0 at the end of the input.
-fn next_length() -> usize {
+fn next_length<R: Read>(input: &mut R) -> usize {
     let mut four = [0u8; 4];
-    let got = io::read_full(0, &mut four);
+    let got = host::read_full(input, &mut four);
     if got < 4 {
         return 0;
     }
@@ -17,14 +17,15 @@ fn next_length() -> usize {
 }
 
 // The next n bytes.
-fn fill(space: &mut [u8], n: usize)
+fn fill<R: Read>(input: &mut R, space: &mut [u8], n: usize)
     requires { n ≤ length space.old }
 {
-    io::read_full(0, &mut space[..n]);
+    host::read_full(input, &mut space[..n]);
 }
 
 fn least(n: usize, s: &[u8]) -> usize
-    ensures { IsPrefixLen result s.now }
+    ensures upper_bound { result ≤ length s.now }
+    ensures value { result ≡ length (take result s.now) }
 {
     if n < s.len() {
         return n;
@@ -33,11 +34,12 @@ fn least(n: usize, s: &[u8]) -> usize
 }
 
 // The next part, at the start of `space`, which is large enough for it: its length.
-pub fn read_part(space: &mut [u8]) -> usize
-    ensures { IsPrefixLen result space.new }
+pub fn read_part<R: Read>(input: &mut R, space: &mut [u8]) -> usize
+    ensures upper_bound { result ≤ length space.new }
+    ensures value { result ≡ length (take result space.new) }
 {
-    let n = least(next_length(), space);
-    fill(space, n);
+    let n = least(next_length(input), space);
+    fill(input, space, n);
     n
 }
 
@@ -89,17 +91,17 @@ fn load_numbers(part: &[u8], into: &mut [f64]) {
     }
 }
 
-pub fn take_words(space: &mut [u8], into: &mut [u32]) {
-    let n = read_part(space);
+pub fn take_words<R: Read>(input: &mut R, space: &mut [u8], into: &mut [u32]) {
+    let n = read_part(input, space);
     load_words(&space[..n], 0, n / 4, into);
 }
 
-pub fn take_marks(space: &mut [u8], into: &mut [u8]) {
-    let n = read_part(space);
+pub fn take_marks<R: Read>(input: &mut R, space: &mut [u8], into: &mut [u8]) {
+    let n = read_part(input, space);
     load_marks(&space[..n], 0, n, into);
 }
 
-pub fn take_numbers(space: &mut [u8], into: &mut [f64]) {
-    let n = read_part(space);
+pub fn take_numbers<R: Read>(input: &mut R, space: &mut [u8], into: &mut [f64]) {
+    let n = read_part(input, space);
     load_numbers(&space[..n], into);
 }

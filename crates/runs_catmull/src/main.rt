@@ -21,6 +21,8 @@ ghost use Rattle.std.specs.Prelude.{◌≡◌, ◌≤◌, length};
 
 use crate::input::read_part;
 use crate::replay::replay;
+use std::io;
+use std::io::Read;
 
 fn name_space() -> [u8; 64]
     ensures { 64 ≡ length result }
@@ -35,17 +37,17 @@ fn head_space() -> [u8; 112]
 }
 
 // The next case: how many differences there are, at most 9; 10 at the end of the input.
-fn step(space: &mut [u8]) -> u32
+fn step<R: Read, P: Print>(input: &mut R, out: &P, space: &mut [u8]) -> u32
     ensures { result ≤ 10 }
 {
     let mut name = name_space();
-    let n = read_part(&mut name);
+    let n = read_part(input, &mut name);
     if n == 0 {
         return 10;
     }
     let mut head = head_space();
-    read_part(&mut head);
-    replay(&name[..n], &head, space)
+    read_part(input, &mut head);
+    replay(input, out, &name[..n], &head, space)
 }
 
 // Cases, and the differences in all of them.
@@ -56,11 +58,11 @@ struct Total {
 }
 
 // All cases, of which there are fewer than 1000.
-fn run(space: &mut [u8]) -> Total {
+fn run<R: Read, P: Print>(input: &mut R, out: &P, space: &mut [u8]) -> Total {
     let mut cases: u32 = 0;
     let mut differences: u32 = 0;
     while cases < 1000 {
-        let d = step(space);
+        let d = step(input, out, space);
         if d == 10 {
             return Total {
                 cases: cases,
@@ -76,14 +78,15 @@ fn run(space: &mut [u8]) -> Total {
     }
 }
 
-fn print_total(t: Total) {
-    io::print_decimal(1, t.cases as u64);
-    io::write_all(1, b" cases, ");
-    io::print_decimal(1, t.differences as u64);
-    io::write_all(1, b" differences\n");
+fn print_total<P: Print>(out: &P, t: Total) -> io::Result<()> {
+    out.print(t.cases)?;
+    out.write_all(b" cases, ")?;
+    out.print(t.differences)?;
+    out.write_all(b" differences\n")
 }
 
-fn main() {
-    let mut space = io::large_buffer();
-    print_total(run(&mut space));
+fn main(rt: HostRuntime) -> io::Result<()> {
+    let mut space = host::large_buffer();
+    let total = run(&mut rt.stdin(), &rt, &mut space);
+    print_total(&rt, total)
 }

@@ -8,6 +8,7 @@ use crate::junk::{junk_marks, junk_numbers, junk_words};
 use call_room::kind::Kind;
 use scope::answers::{Subdivided, in_numbers};
 use scope::records::Counts;
+use std::io::Read;
 
 // Room for the largest case.
 fn words() -> [u32; 4096]
@@ -198,11 +199,11 @@ fn answer_place(head: &[u8], answer: &[usize; 8]) -> usize {
     i
 }
 
-fn judge_answer(name: &[u8], head: &[u8], r: Subdivided) -> u32
+fn judge_answer<P: Print>(out: &P, name: &[u8], head: &[u8], r: Subdivided) -> u32
     ensures { result ≤ 1 }
 {
     let answer = in_words(r);
-    report(name, b"answer", answer_place(head, &answer), 8)
+    report(out, name, b"answer", answer_place(head, &answer), 8)
 }
 
 // After the answers 1 to 4 all is as handed in.
@@ -214,7 +215,9 @@ fn kept(head: &[u8]) -> bool {
     n <= 4
 }
 
-fn judge_links(
+fn judge_links<R: Read, P: Print>(
+    input: &mut R,
+    out: &P,
     name: &[u8],
     head: &[u8],
     space: &mut [u8],
@@ -225,13 +228,33 @@ fn judge_links(
     ensures { result ≤ 3 }
 {
     let k = kept(head);
-    let a = judge_words(name, b"outs", space, word_in(head, 12), k, outs);
-    let b = judge_words(name, b"edges", space, word_in(head, 13), k, edges);
-    let c = judge_words(name, b"faces", space, word_in(head, 14), k, faces);
+    let a = judge_words(input, out, name, b"outs", space, word_in(head, 12), k, outs);
+    let b = judge_words(
+        input,
+        out,
+        name,
+        b"edges",
+        space,
+        word_in(head, 13),
+        k,
+        edges,
+    );
+    let c = judge_words(
+        input,
+        out,
+        name,
+        b"faces",
+        space,
+        word_in(head, 14),
+        k,
+        faces,
+    );
     a + b + c
 }
 
-fn judge_all_marks(
+fn judge_all_marks<R: Read, P: Print>(
+    input: &mut R,
+    out: &P,
     name: &[u8],
     head: &[u8],
     space: &mut [u8],
@@ -242,13 +265,42 @@ fn judge_all_marks(
     ensures { result ≤ 3 }
 {
     let k = kept(head);
-    let a = judge_marks(name, b"vmarks", space, word_in(head, 15), k, vmarks);
-    let b = judge_marks(name, b"emarks", space, word_in(head, 16), k, emarks);
-    let c = judge_marks(name, b"fmarks", space, word_in(head, 17), k, fmarks);
+    let a = judge_marks(
+        input,
+        out,
+        name,
+        b"vmarks",
+        space,
+        word_in(head, 15),
+        k,
+        vmarks,
+    );
+    let b = judge_marks(
+        input,
+        out,
+        name,
+        b"emarks",
+        space,
+        word_in(head, 16),
+        k,
+        emarks,
+    );
+    let c = judge_marks(
+        input,
+        out,
+        name,
+        b"fmarks",
+        space,
+        word_in(head, 17),
+        k,
+        fmarks,
+    );
     a + b + c
 }
 
-fn judge_all_numbers(
+fn judge_all_numbers<R: Read, P: Print>(
+    input: &mut R,
+    out: &P,
     name: &[u8],
     head: &[u8],
     space: &mut [u8],
@@ -258,12 +310,23 @@ fn judge_all_numbers(
     ensures { result ≤ 2 }
 {
     let k = kept(head);
-    let a = judge_numbers(name, b"points", space, word_in(head, 18), k, points);
-    let b = judge_numbers(name, b"work", space, word_in(head, 19), k, work);
+    let a = judge_numbers(
+        input,
+        out,
+        name,
+        b"points",
+        space,
+        word_in(head, 18),
+        k,
+        points,
+    );
+    let b = judge_numbers(input, out, name, b"work", space, word_in(head, 19), k, work);
     a + b
 }
 
-fn judge_slices(
+fn judge_slices<R: Read, P: Print>(
+    input: &mut R,
+    out: &P,
     name: &[u8],
     head: &[u8],
     space: &mut [u8],
@@ -278,14 +341,16 @@ fn judge_slices(
 ) -> u32
     ensures { result ≤ 8 }
 {
-    let a = judge_links(name, head, space, outs, edges, faces);
-    let b = judge_all_marks(name, head, space, vmarks, emarks, fmarks);
-    let c = judge_all_numbers(name, head, space, points, work);
+    let a = judge_links(input, out, name, head, space, outs, edges, faces);
+    let b = judge_all_marks(input, out, name, head, space, vmarks, emarks, fmarks);
+    let c = judge_all_numbers(input, out, name, head, space, points, work);
     a + b + c
 }
 
 // The call on a given mesh, into junk, and everything compared: the number of differences.
-fn replay_mesh(
+fn replay_mesh<R: Read, P: Print>(
+    input: &mut R,
+    out: &P,
     name: &[u8],
     head: &[u8],
     space: &mut [u8],
@@ -333,27 +398,45 @@ fn replay_mesh(
         &mut newpoints,
         &mut work,
     );
-    let d = judge_answer(name, head, r);
+    let d = judge_answer(out, name, head, r);
     d + judge_slices(
-        name, head, space, &newouts, &newedges, &newfaces, &newvmarks, &newemarks, &newfmarks,
-        &newpoints, &work,
+        input, out, name, head, space, &newouts, &newedges, &newfaces, &newvmarks, &newemarks,
+        &newfmarks, &newpoints, &work,
     )
 }
 
-fn take_links(space: &mut [u8], outs: &mut [u32], edges: &mut [u32], faces: &mut [u32]) {
-    take_words(space, outs);
-    take_words(space, edges);
-    take_words(space, faces);
+fn take_links<R: Read>(
+    input: &mut R,
+    space: &mut [u8],
+    outs: &mut [u32],
+    edges: &mut [u32],
+    faces: &mut [u32],
+) {
+    take_words(input, space, outs);
+    take_words(input, space, edges);
+    take_words(input, space, faces);
 }
 
-fn take_all_marks(space: &mut [u8], vmarks: &mut [u8], emarks: &mut [u8], fmarks: &mut [u8]) {
-    take_marks(space, vmarks);
-    take_marks(space, emarks);
-    take_marks(space, fmarks);
+fn take_all_marks<R: Read>(
+    input: &mut R,
+    space: &mut [u8],
+    vmarks: &mut [u8],
+    emarks: &mut [u8],
+    fmarks: &mut [u8],
+) {
+    take_marks(input, space, vmarks);
+    take_marks(input, space, emarks);
+    take_marks(input, space, fmarks);
 }
 
 // The case with this name and head, the rest of it read from the input: the number of differences.
-pub fn replay(name: &[u8], head: &[u8], space: &mut [u8]) -> u32
+pub fn replay<R: Read, P: Print>(
+    input: &mut R,
+    out: &P,
+    name: &[u8],
+    head: &[u8],
+    space: &mut [u8],
+) -> u32
     ensures { result ≤ 9 }
 {
     let mut outs = words();
@@ -363,10 +446,10 @@ pub fn replay(name: &[u8], head: &[u8], space: &mut [u8]) -> u32
     let mut emarks = marks();
     let mut fmarks = marks();
     let mut points = numbers();
-    take_links(space, &mut outs, &mut edges, &mut faces);
-    take_all_marks(space, &mut vmarks, &mut emarks, &mut fmarks);
-    take_numbers(space, &mut points);
+    take_links(input, space, &mut outs, &mut edges, &mut faces);
+    take_all_marks(input, space, &mut vmarks, &mut emarks, &mut fmarks);
+    take_numbers(input, space, &mut points);
     replay_mesh(
-        name, head, space, &outs, &edges, &faces, &vmarks, &emarks, &fmarks, &points,
+        input, out, name, head, space, &outs, &edges, &faces, &vmarks, &emarks, &fmarks, &points,
     )
 }
