@@ -86,21 +86,48 @@ pub fn run(kind: Kind, passes: u32, flag: bool, file: &mut [u8], n: usize) -> Re
     requires { n ≤ length file.old }
     ensures { Within result (length file.new) }
 {
+    let mut points = cage_points();
+    let mut newpoints = result_points();
+    let mut work = work_numbers();
+    run_beside(
+        kind,
+        passes,
+        flag,
+        file,
+        n,
+        &mut points,
+        &mut newpoints,
+        &mut work,
+    )
+}
+
+// The same beside the numbers. They are made before the words and marks have their place on the stack: a function that makes
+// numbers may take the same room again until it returns.
+fn run_beside(
+    kind: Kind,
+    passes: u32,
+    flag: bool,
+    file: &mut [u8],
+    n: usize,
+    points: &mut [f64],
+    newpoints: &mut [f64],
+    work: &mut [f64],
+) -> Refined
+    requires { n ≤ length file.old }
+    ensures { Within result (length file.new) }
+{
     let mut outs = cage_links();
     let mut edges = cage_edges();
     let mut faces = cage_links();
     let mut vmarks = cage_marks();
     let mut emarks = cage_edge_marks();
     let mut fmarks = cage_marks();
-    let mut points = cage_points();
     let mut newouts = result_links();
     let mut newedges = result_edges();
     let mut newfaces = result_links();
     let mut newvmarks = result_marks();
     let mut newemarks = result_edge_marks();
     let mut newfmarks = result_marks();
-    let mut newpoints = result_points();
-    let mut work = work_numbers();
     refine(
         kind,
         passes,
@@ -113,14 +140,14 @@ pub fn run(kind: Kind, passes: u32, flag: bool, file: &mut [u8], n: usize) -> Re
         &mut vmarks,
         &mut emarks,
         &mut fmarks,
-        &mut points,
+        points,
         &mut newouts,
         &mut newedges,
         &mut newfaces,
         &mut newvmarks,
         &mut newemarks,
         &mut newfmarks,
-        &mut newpoints,
-        &mut work,
+        newpoints,
+        work,
     )
 }
