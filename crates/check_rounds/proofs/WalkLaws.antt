@@ -14,7 +14,7 @@ use Rattle.check_rules.specs.Place.{Half, Live}
 use Rattle.check_rules.specs.Rule.{Faced, Looped, OnLoop, OnTurn, Rooted, Sewn}
 use Rattle.scope.specs.Links.{NONE, partner}
 use Rattle.laws_mesh.proofs.Cycle.{Perm, iter-front, iter-reach, reach-bound, reach-one, reach-sym, reach-within, split}
-use Rattle.laws_mesh.specs.Reach.{Reach, here, iter}
+use Rattle.laws_mesh.specs.Reach.{Reach, iter}
 use mathlib.Core.Bool.{Bool}
 
 module _ {f : ℕ → ℕ} {Miss : ℕ → Type 0} {b n : ℕ} where

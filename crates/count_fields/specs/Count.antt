@@ -1,5 +1,5 @@
 -- The counter's fields (document 01, section 5). Assumes nothing.
-use Rattle.std.specs.Prelude.{◌≡◌, ℕ, ◌+◌, ◌-◌, ◌*◌, ◌/◌, ◌<◌, ◌≤◌, Bool, true, false, not, ◌&&◌, List, [], ◌∷◌, eqb, ltb, get_or, length}
+use Rattle.std.specs.Prelude.{ℕ, ◌*◌, ◌<◌, ◌≤◌, Bool, true, false, not, ◌&&◌, List, [], ◌∷◌, ltb, get_or, length}
 use Rattle.scope.specs.Lists.{if, number_of}
 use Rattle.scope.specs.Links.{Links, isolated}
 use Rattle.mesh.specs.Words.{next_at}

@@ -1,5 +1,5 @@
 -- The line of the counter as its fields (document 01, section 5). Assumes nothing.
-use Rattle.std.specs.Prelude.{ℕ, ◌+◌, ◌-◌, ◌/◌, Bool, true, false, ltb}
+use Rattle.std.specs.Prelude.{ℕ, ◌+◌, ◌-◌, ◌/◌, true, false, ltb}
 use Rattle.scope.specs.Lists.{if}
 use Rattle.scope.specs.Links.{Links}
 use Rattle.scope.specs.Tally.{tally_of}

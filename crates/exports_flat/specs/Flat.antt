@@ -1,7 +1,6 @@
 -- Answers as plain numbers. Assumes nothing.
 use Rattle.std.specs.Prelude.{ℕ, Bool, not, eqb, get_or}
 use Rattle.scope.specs.declared.records.Counts.{Counts}
-use Rattle.scope.specs.declared.answers.Refusal.{Refusal}
 use Rattle.scope.specs.declared.answers.Said.{Said}
 use Rattle.scope.specs.declared.answers.Subdivided.{Subdivided}
 use Rattle.scope.specs.Lists.{if}

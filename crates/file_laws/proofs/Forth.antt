@@ -161,11 +161,11 @@ low-at b p x y z hx hy hz i q = first (ltb i (length x)) refl
     first true e = let u = ltb-true i (length x) e in low-in b p x (p + i) i hx (omega arith) refl
     first false e = let u = ltb-false i (length x) e in second (omega arith) (ltb i (length x + length y)) refl
 
-own_marks : (b : List ℕ) (c : Counts) (x y z : List ℕ) → length x ≡ c.v → length y ≡ c.e → length z ≡ c.f
+marks_of_lem : (b : List ℕ) (c : Counts) (x y z : List ℕ) → length x ≡ c.v → length y ≡ c.e → length z ≡ c.f
     → Inside b (marks_from c) (marks_bytes x) → Inside b (marks_from c + c.v) (marks_bytes y) → Inside b (marks_from c + c.v + c.e) (marks_bytes z)
     → marks_right b (marks_from c) (c.v + c.e + c.f) ≡ true
 unfolding marks_right
-own_marks b c x y z lx ly lz hx hy hz =
+marks_of_lem b c x y z lx ly lz hx hy hz =
     all_so (c.v + c.e + c.f) (λ i. leb (get_or b (marks_from c + i) 0) 1)
     (λ i q. le-leb _ _ (low-at b (marks_from c) x y z hx (rw lx hy) (rw (lx, ly) hz) i (omega arith)))
 
@@ -216,7 +216,7 @@ given_back b c s ps h p =
     let u = used c s in
     let e = counts_of b c w in
     record {
-      right = right_of b c w p.whole (own_marks b c u.vmarks u.emarks u.fmarks n.vmarks n.emarks n.fmarks p.vmarks p.emarks p.fmarks);
+      right = right_of b c w p.whole (marks_of_lem b c u.vmarks u.emarks u.fmarks n.vmarks n.emarks n.fmarks p.vmarks p.emarks p.fmarks);
       counts = e;
       slices = slices-of b c (filed c s) e
           (words-read b (outs_from c) c.v u.outs p.outs h.outs n.outs)

@@ -1,5 +1,5 @@
 -- The mesh file (document 01, section 5): what it holds, what is wrong with it, and what a reader and a writer answer and leave. Assumes nothing.
-use Rattle.std.specs.Prelude.{◌≡◌, ℕ, zero, suc, ◌+◌, ◌*◌, ◌/◌, ◌%◌, ◌<◌, Bool, true, false, not, ◌&&◌, List, [], ◌∷◌, ◌++◌, map, eqb, leb, get_or, length, Float}
+use Rattle.std.specs.Prelude.{◌≡◌, ℕ, ◌+◌, ◌*◌, ◌/◌, ◌%◌, ◌<◌, Bool, true, not, ◌&&◌, List, [], ◌∷◌, ◌++◌, map, eqb, leb, get_or, length, Float}
 use Rattle.std.proofs.Math.Option.{Option, none, some}
 use Rattle.std.specs.Float.{nan, binary64}
 use Rattle.std.specs.Float.Ieee.{of_bits, to_bits}
@@ -8,9 +8,8 @@ use Rattle.scope.specs.declared.records.Counts.{Counts}
 use Rattle.scope.specs.declared.answers.Refusal.{Refusal}
 use Rattle.scope.specs.declared.answers.Refusal.TheVariants.{ShortSlice, NotConsistent, NoRoom, BadContents, NotFinite}
 use Rattle.scope.specs.Lists.{if, ◌or_else◌, range, all, lay, over}
-use Rattle.scope.specs.Links.{Links, Marks}
 use Rattle.scope.specs.Check.{fault}
-use Rattle.scope.specs.Slices.{Slices, Given, Sizes, sizes, fits_with, links_of, marks_of, points_of, used, float_zero}
+use Rattle.scope.specs.Slices.{Slices, Sizes, sizes, fits_with, links_of, marks_of, points_of, used, float_zero}
 use Rattle.scope.specs.Answers.{refuse_if, refuse}
 use Rattle.file_read.specs.declared.read.Reading.{Reading}
 use Rattle.file_read.specs.declared.read.Reading.TheVariants.{Read, Refused}

@@ -1,5 +1,5 @@
 -- Small meshes, as links. Assumes nothing.
-use Rattle.std.specs.Prelude.{List, [], ◌∷◌}
+use Rattle.std.specs.Prelude.{[], ◌∷◌}
 use Rattle.scope.specs.Links.{Links, Marks, NONE}
 
 -- one triangle

@@ -8,7 +8,7 @@ use lib.ListN.{length}
 use Rattle.scope.specs.Links.{Links, NONE, face, next, start, loop}
 use Rattle.scope.specs.Edits.{cut_off}
 use Rattle.scope.specs.Passes.{corners, loop_face}
-use Rattle.laws_mesh.specs.Reach.{step, iter}
+use Rattle.laws_mesh.specs.Reach.{iter}
 use Rattle.laws_mesh.specs.Of.{Good}
 use Rattle.laws_mesh.proofs.Cycle.{split}
 use Rattle.laws_mesh.proofs.Count.{Length}

@@ -9,7 +9,7 @@ use lib.ListN.{get_or, length}
 use Rattle.scope.specs.Lists.{put}
 use Rattle.scope.specs.Links.{Links, partner, out_is}
 use Rattle.scope.specs.Edits.{Part, petal, petals, fan}
-use Rattle.laws_mesh.specs.Mesh.{tail, Shape, Consistent}
+use Rattle.laws_mesh.specs.Mesh.{Shape, Consistent}
 use Rattle.laws_mesh.specs.Of.{mesh_on}
 use Rattle.laws_mesh.proofs.Cycle.{split}
 use Rattle.laws_mesh.proofs.Facts.{partner-even}

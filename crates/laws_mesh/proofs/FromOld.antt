@@ -4,7 +4,7 @@ use mathlib.Core.Bool.{Bool, true, false}
 use Prim.Native.Nat.{ℕ, ◌*◌, ◌<◌}
 use lib.Dec.{ltb}
 use Rattle.scope.specs.Lists.{if}
-use Rattle.scope.specs.Links.{Links, face, head, next, start, loop}
+use Rattle.scope.specs.Links.{Links, face, head, next, start}
 use Rattle.scope.specs.Passes.{from_old}
 use Rattle.laws_mesh.specs.Reach.{here, step}
 use Rattle.laws_mesh.specs.Of.{Good}

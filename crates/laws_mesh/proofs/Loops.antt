@@ -2,13 +2,13 @@
 use mathlib.Core.Path.{◌≡◌, refl, sym, ap, ◌∙◌, subst⁻¹}
 use mathlib.Core.Logic.{◌≢◌}
 use mathlib.Core.List.{List, [], ◌∷◌}
-use Prim.Native.Nat.{ℕ, zero, suc, ◌+◌, ◌*◌, ◌≤◌, ◌<◌}
+use Prim.Native.Nat.{ℕ, zero, suc, ◌*◌, ◌≤◌, ◌<◌}
 use native.Mathlib.Nat.{not-suc-le-zero}
 use native.Mathlib.Decide.{dec_lt}
 use native.Mathlib.Omega.{arith}
 use lib.ListN.{length}
 use Rattle.scope.specs.Lists.{round}
-use Rattle.scope.specs.Links.{Links, NONE, face, next, start, loop}
+use Rattle.scope.specs.Links.{Links, NONE, next, start, loop}
 use Rattle.laws_mesh.specs.Reach.{Reach, iter}
 use Rattle.laws_mesh.specs.Mesh.{Mesh, Shape, Core, Consistent}
 use Rattle.laws_mesh.specs.Of.{mesh, Good}

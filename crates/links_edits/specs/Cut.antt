@@ -1,7 +1,7 @@
 -- The cut across a face in the slices: one line for each store, and what it asks. Assumes nothing.
 use Rattle.std.specs.Prelude.{ℕ, ◌+◌, ◌*◌, ◌≤◌, ◌<◌, ◌≡◌, List, [], ◌∷◌, length}
 use Rattle.scope.specs.declared.records.Edge.{Edge}
-use Rattle.scope.specs.Links.{Links, partner, loop}
+use Rattle.scope.specs.Links.{partner, loop}
 use Rattle.scope.specs.Edits.{joined}
 use Rattle.mesh.specs.Words.{face_at, head_at, next_at, prev_at, tail_at, set_face, set_next, set_prev, put_edge, Has}
 use Rattle.links_edits.specs.declared.cut.Gap.{Gap}

@@ -1,14 +1,14 @@
 -- One face opened as the code does it, one face more, and one swap more. Assumes nothing.
 use Prim.Native.Nat.{ℕ, suc, ◌+◌, ◌-◌, ◌*◌, ◌≤◌, ◌<◌}
 use mathlib.Core.Path.{◌≡◌, refl, sym, ap, ◌∙◌, subst, subst⁻¹}
-use mathlib.Core.Bool.{Bool, true, false, not, true≢false}
+use mathlib.Core.Bool.{Bool, true, false, true≢false}
 use mathlib.Core.List.{List, [], ◌∷◌}
 use mathlib.Core.Option.{Option, none, some}
 use native.Mathlib.Omega.{arith}
 use lib.ListN.{length, set}
 use Rattle.scope.specs.Lists.{put, each, if}
 use Rattle.scope.specs.Links.{Links, next, prev, start, rim_edge, loop}
-use Rattle.scope.specs.Edits.{Part, petal, petals, singles, fan, split_face, split_edge, joined, paint, across_face, cut_off, swap_ccw}
+use Rattle.scope.specs.Edits.{petal, petals, singles, fan, split_face, split_edge, joined, paint, across_face, cut_off, swap_ccw}
 use Rattle.scope.specs.Passes.{rim_side, rim_face, centre_face, sqrt_face, swap_inner}
 use Rattle.laws_mesh.proofs.InsertLaws.{face-nv, face-ne, face-nf, face-outs}
 use Rattle.laws_sqrt3.proofs.Turn.{swap-counts}

@@ -8,7 +8,7 @@ use lib.ListN.{length, get_or, set, take}
 use lib.Seq.{get_or-take}
 use Rattle.scope.specs.declared.records.Counts.{Counts}
 use Rattle.scope.specs.Lists.{put, lay, each, if, has}
-use Rattle.scope.specs.Links.{Links, face, next, prev, start}
+use Rattle.scope.specs.Links.{Links, next, prev, start}
 use Rattle.scope.specs.Edits.{cut_off, cut_corner, triangulate_face}
 use Rattle.scope.specs.Tally.{counts_of}
 use Rattle.laws_mesh.specs.Mesh.{Core}

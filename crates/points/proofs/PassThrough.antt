@@ -12,11 +12,11 @@ use lib.Ieee.{Float}
 use Rattle.scope.specs.declared.records.Point.{Point}
 use Rattle.scope.specs.declared.records.FacePoints.{FacePoints}
 use Rattle.scope.specs.declared.records.FacePoints.TheVariants.{Centre, Pair}
-use Rattle.scope.specs.Point.{zero_p, add_p}
+use Rattle.scope.specs.Point.{add_p}
 use Rattle.scope.specs.Rules.{loop_rim, sqrt_rim, sqrt_pair}
-use Rattle.scope.specs.Weights.{row, loop_rows, sqrt_rows}
+use Rattle.scope.specs.Weights.{loop_rows, sqrt_rows}
 use Rattle.scope.specs.Lists.{if, only, range}
-use Rattle.scope.specs.Links.{Links, NONE, partner, face, head, next, prev, out, start, tail, rim_edge, rim_vertex, loop, around}
+use Rattle.scope.specs.Links.{Links, NONE, partner, face, head, next, prev, out, tail, rim_edge, rim_vertex, around}
 use Rattle.scope.specs.Passes.{rim_side}
 use Rattle.scope.specs.Points.{point_at, flat, plus, heads, face_point, catmull_edge, catmull_rim, catmull_inner, catmull_vertex, catmull_points, inner, on_rim, loop_edge_point, loop_vertex, loop_points, sqrt_vertex, sqrt_answer, given, answers, sqrt_points}
 use Rattle.scope.specs.Call.{Scheme, points}

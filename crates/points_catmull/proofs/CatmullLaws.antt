@@ -1,6 +1,6 @@
 -- Catmull-Clark's rules by cases, as the code takes them; and they see no more of the face points and edge points at hand than the links reach. Assumes nothing.
-use Prim.Native.Nat.{ℕ, zero, suc, ◌+◌, ◌-◌, ◌*◌, ◌/◌, ◌≤◌, ◌<◌}
-use mathlib.Core.Path.{◌≡◌, refl, sym, ap, ◌∙◌}
+use Prim.Native.Nat.{ℕ, zero, suc, ◌+◌, ◌*◌, ◌/◌, ◌≤◌, ◌<◌}
+use mathlib.Core.Path.{◌≡◌, refl, ap, ◌∙◌}
 use mathlib.Core.Bool.{Bool, true, false, not, ◌&&◌, ◌||◌}
 use mathlib.Core.Logic.{◌≢◌}
 use mathlib.Core.List.{List, [], ◌∷◌, map}
@@ -15,16 +15,16 @@ use Rattle.scope.specs.declared.records.Counts.{Counts}
 use Rattle.scope.specs.Point.{add_p, over_p, zero_p}
 use Rattle.scope.specs.Rules.{cc_edge, cc_inner, middle}
 use Rattle.scope.specs.Lists.{if, only, round, over}
-use Rattle.scope.specs.Links.{Links, NONE, rim_edge, rim_vertex, loop, around}
+use Rattle.scope.specs.Links.{Links, NONE, loop, around}
 use Rattle.scope.specs.Points.{point_at, plus, number, heads, face_point, catmull_edge, catmull_rim, catmull_inner, catmull_vertex, catmull_points}
-use Rattle.mesh.specs.Words.{face_at, head_at, link_at, turn_at}
+use Rattle.mesh.specs.Words.{face_at, link_at, turn_at}
 use Rattle.mesh.specs.Rounds.{rim_at, rim_edge_at, rim_vertex_at, turns_at, after}
 use Rattle.mesh.proofs.PartnerLaws.{partner-lt}
 use Rattle.points_catmull.specs.declared.sums.Sum.{Sum}
 use Rattle.points_catmull.specs.declared.catmull.Ring.{Ring}
 use Rattle.points_catmull.specs.Place.{place, made}
 use Rattle.points_catmull.specs.Sums.{Halves, Outs, Inside, mesh_of, slot, head_point, summed}
-use Rattle.points_catmull.specs.Catmull.{edge_by, rim_edges, rim_by, inner_by, vertex_by, ring_of, joined}
+use Rattle.points_catmull.specs.Catmull.{edge_by, rim_by, inner_by, vertex_by, ring_of, joined}
 use Rattle.points_catmull.proofs.PlaceLaws.{length-each, length-laid, made-same, made-read, laid-behind, whole}
 use Rattle.points_catmull.proofs.SumLaws.{Joins}
 

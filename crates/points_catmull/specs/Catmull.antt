@@ -1,6 +1,6 @@
 -- Catmull-Clark's rules (document 01, section 3) with the points of faces and of edges at hand: scope's, where f gives the face points and g the edge points.
 -- Assumes nothing.
-use Rattle.std.specs.Prelude.{ℕ, suc, ◌+◌, ◌*◌, ◌/◌, Bool, true, false, not, ◌&&◌, List, [], ◌∷◌, map, length, Float}
+use Rattle.std.specs.Prelude.{ℕ, suc, ◌+◌, ◌*◌, ◌/◌, Bool, not, ◌&&◌, List, map, length, Float}
 use Rattle.scope.specs.declared.records.Point.{Point}
 use Rattle.scope.specs.Point.{add_p, over_p, zero_p}
 use Rattle.scope.specs.Rules.{cc_edge, cc_inner, middle}

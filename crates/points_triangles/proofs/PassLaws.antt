@@ -1,39 +1,38 @@
 -- The parts of a pass of Loop and of sqrt3, laid into the work slice, are scope's points of the whole pass. Assumes nothing.
-use Prim.Native.Nat.{ℕ, zero, suc, ◌+◌, ◌*◌, ◌≤◌, ◌<◌}
+use Prim.Native.Nat.{ℕ, ◌+◌, ◌*◌, ◌<◌}
 use mathlib.Core.Path.{◌≡◌, refl, sym, ap, ◌∙◌}
-use mathlib.Core.Bool.{Bool, true, false, not, ◌&&◌}
+use mathlib.Core.Bool.{Bool, true, false}
 use mathlib.Core.List.{List, [], ◌∷◌, ◌++◌, map}
 use mathlib.Core.Option.{Option, none, some}
 use native.Mathlib.Omega.{arith}
-use lib.Dec.{eqb, ltb}
+use lib.Dec.{eqb}
 use lib.ListN.{length}
 use lib.Ieee.{Float}
 use Rattle.scope.specs.declared.records.Point.{Point}
 use Rattle.scope.specs.declared.records.Counts.{Counts}
 use Rattle.scope.specs.declared.records.Weights.{Weights}
 use Rattle.scope.specs.Lists.{if, over, range}
-use Rattle.scope.specs.Links.{Links, NONE, rim_vertex, loop, around}
+use Rattle.scope.specs.Links.{NONE, loop, around}
 use Rattle.scope.specs.Passes.{rim_side}
 use Rattle.scope.specs.Points.{point_at, flat, heads, face_point, on_rim, inner, loop_vertex, loop_edge_point, loop_points, sqrt_vertex, sqrt_answer, answers, sqrt_points}
 use Rattle.scope.specs.Rules.{loop_edge, middle}
 use Rattle.scope.specs.Schemes.{crowded}
-use Rattle.scope.specs.Weights.{row, loop_rows, sqrt_rows}
-use Rattle.mesh.specs.Words.{link_at, head_at, next_at}
+use Rattle.scope.specs.Weights.{loop_rows, sqrt_rows}
+use Rattle.mesh.specs.Words.{link_at, next_at}
 use Rattle.mesh.specs.Rounds.{rim_edge_at, rim_vertex_at, around_at}
 use Rattle.mesh.proofs.RoundLaws.{rim-of}
 use Rattle.points.proofs.PassThrough.{answer-centre, answer-pair}
-use Rattle.scope.specs.declared.records.FacePoints.{FacePoints}
 use Rattle.scope.specs.declared.records.FacePoints.TheVariants.{Centre}
 use Rattle.points_catmull.specs.Place.{place, made}
-use Rattle.points_catmull.specs.Sums.{Halves, Outs, mesh_of, head_point}
+use Rattle.points_catmull.specs.Sums.{Outs, mesh_of, head_point}
 use Rattle.points_catmull.proofs.PlaceLaws.{flat_append, made-same, length-made}
 use Rattle.points_weights.specs.Tables.{table}
 use Rattle.points_triangles.specs.declared.vertices.Weightless.{Weightless}
 use Rattle.points_triangles.specs.declared.vertices.Weightless.TheVariants.{Nobody, Vertex}
 use Rattle.points_triangles.specs.declared.inner.RimRule.{RimRule}
-use Rattle.points_triangles.specs.declared.inner.RimRule.TheVariants.{Stay, Eighths, TwentySevenths}
-use Rattle.points_triangles.specs.Vertices.{rim_point, heavy, weighed, vertex_of}
-use Rattle.points_triangles.specs.Passes.{named, reached, Smoothed, loop_wants, loop_left, sqrt_left, sqrt_rule}
+use Rattle.points_triangles.specs.declared.inner.RimRule.TheVariants.{Eighths}
+use Rattle.points_triangles.specs.Vertices.{heavy, weighed, vertex_of}
+use Rattle.points_triangles.specs.Passes.{reached, Smoothed, loop_wants, loop_left, sqrt_left, sqrt_rule}
 use Rattle.points_triangles.proofs.VertexLaws.{light, reached-le, not-heavy, valence-pos, row_is}
 
 -- ---- an edge point of Loop

@@ -1,9 +1,9 @@
 -- The vertices of Loop and sqrt3 by cases, as the code takes them. Assumes nothing.
 use Prim.Native.Nat.{ℕ, zero, suc, ◌+◌, ◌-◌, ◌*◌, ◌≤◌, ◌<◌}
 use mathlib.Core.Path.{◌≡◌, refl, sym, ap, ◌∙◌}
-use mathlib.Core.Bool.{Bool, true, false, not, ◌&&◌, ◌||◌}
+use mathlib.Core.Bool.{Bool, true, false, not}
 use mathlib.Core.Logic.{◌≢◌}
-use mathlib.Core.List.{List, [], ◌∷◌, map}
+use mathlib.Core.List.{List, [], map}
 use mathlib.Core.Option.{Option, none, some}
 use native.Mathlib.Nat.{add-zero, add-suc}
 use native.Mathlib.Numerals.{add-one}
@@ -27,7 +27,6 @@ use Rattle.mesh.specs.Rounds.{rim_at, rim_vertex_at, turns_at, around_at}
 use Rattle.points_catmull.specs.declared.sums.Sum.{Sum}
 use Rattle.points_catmull.specs.Sums.{Outs, mesh_of, head_point, summed}
 use Rattle.points_catmull.proofs.PlaceLaws.{length-each, made-first}
-use Rattle.points_weights.specs.declared.Found.{Found}
 use Rattle.points_weights.specs.declared.Found.TheVariants.{Row, TooMany}
 use Rattle.points_weights.specs.Tables.{no_row, table, found}
 use Rattle.points_weights.proofs.TableLaws.{table-row}
@@ -35,9 +34,8 @@ use Rattle.points_triangles.specs.declared.inner.Moved.{Moved}
 use Rattle.points_triangles.specs.declared.inner.Moved.TheVariants.{To, By, NoWeight}
 use Rattle.points_triangles.specs.declared.inner.RimRule.{RimRule}
 use Rattle.points_catmull.specs.Place.{place, made}
-use Rattle.points_triangles.specs.declared.vertices.Weightless.{Weightless}
 use Rattle.points_triangles.specs.declared.vertices.Weightless.TheVariants.{Nobody, Vertex}
-use Rattle.points_triangles.specs.Passes.{named, reached, Smoothed}
+use Rattle.points_triangles.specs.Passes.{reached, Smoothed}
 use Rattle.points_triangles.specs.Vertices.{tail_point, rim_point, weighed, unless_heavy, moved_inner, heavy, vertex_of, moved_vertex}
 
 -- ---- which row

@@ -1,7 +1,6 @@
 -- The vertices of Loop and sqrt3 (document 01, section 3): scope's rules over any weights and any rule for the rim, with the answer for a valence that
 -- has no weights. Assumes nothing.
-use Rattle.std.specs.Prelude.{ℕ, ◌+◌, ◌*◌, Bool, true, false, not, ◌&&◌, List, [], ◌∷◌, map, ltb, length, get_or, Float}
-use Rattle.std.proofs.Math.Option.{Option, none, some}
+use Rattle.std.specs.Prelude.{ℕ, Bool, not, ◌&&◌, List, map, ltb, length, get_or, Float}
 use Rattle.scope.specs.declared.records.Point.{Point}
 use Rattle.scope.specs.declared.records.Weights.{Weights}
 use Rattle.scope.specs.Point.{zero_p}

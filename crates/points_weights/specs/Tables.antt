@@ -1,5 +1,5 @@
 -- The weight tables as the code has them, and which row is for a valence. Assumes nothing.
-use Rattle.std.specs.Prelude.{ℕ, ◌-◌, ◌^◌, false, List, [], ◌∷◌, map, ltb, drop, Float}
+use Rattle.std.specs.Prelude.{ℕ, ◌-◌, ◌^◌, false, List, ◌∷◌, map, ltb, drop, Float}
 use Rattle.std.specs.Float.{nan, binary64}
 use Rattle.std.specs.Float.Ieee.{round}
 use Rattle.scope.specs.declared.records.Weights.{Weights}

@@ -28,7 +28,7 @@ use Rattle.file_write.proofs.WriteLaws.{is-written, is-refused, room_for}
 use Rattle.call_steps.specs.Lent.{given_at, outcome_at}
 use Rattle.refine_job.specs.declared.Refined.{Refined}
 use Rattle.refine_job.specs.declared.Refined.TheVariants.{Written, Refused}
-use Rattle.refine_job.specs.Job.{Within, Saved, saved_at, saving, saved, Made, made_at, answering, made, Left, left_at, going, refined}
+use Rattle.refine_job.specs.Job.{Within, Saved, saved_at, saving, saved, Made, made_at, answering, made, left_at, going, refined}
 
 -- ---- the writer
 written-size : (o : Option Refusal) (k : ℕ) {n : ℕ} → writing o k ≡ Wrote n → n ≡ k

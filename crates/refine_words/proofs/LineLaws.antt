@@ -2,7 +2,7 @@
 use Prim.Native.Nat.{ℕ, ◌+◌, ◌≤◌}
 use mathlib.Core.Path.{◌≡◌, refl, sym, ap, ◌∙◌}
 use mathlib.Core.Bool.{Bool}
-use mathlib.Core.List.{List, [], ◌∷◌, ◌++◌}
+use mathlib.Core.List.{List, [], ◌++◌}
 use native.Mathlib.Omega.{arith}
 use lib.ListN.{length}
 use Rattle.scope.specs.declared.records.Counts.{Counts}
@@ -13,7 +13,7 @@ use Rattle.scope.specs.declared.answers.Refusal.TheVariants.{TooManyPasses, Shor
 use Rattle.scope.specs.Lists.{over}
 use Rattle.scope.specs.Answers.{said_of}
 use Rattle.mesh.proofs.SliceLaws.{length_over}
-use Rattle.text.specs.Text.{over_from, decimal}
+use Rattle.text.specs.Text.{over_from}
 use Rattle.text.specs.Ascii.{ascii}
 use Rattle.text.proofs.PutLaws.{Written, written_on, written-whole, over_none}
 use Rattle.call_room.specs.declared.kind.Kind.{Kind}

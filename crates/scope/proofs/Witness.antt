@@ -1,41 +1,33 @@
 -- A few recorded cases of the Rust by computation, and the room that a pass asks for, beside the definitions themselves: a definition that is changed is refused here.
 -- Written by tools/theorems.py from oracle/vectors; crates/scope_cases has more. Assumes nothing.
 use mathlib.Core.Path.{◌≡◌, refl}
-use mathlib.Core.Bool.{Bool, true, false}
-use mathlib.Core.List.{List, [], ◌∷◌, ◌++◌, map}
+use mathlib.Core.Bool.{true, false}
+use mathlib.Core.List.{List, [], ◌∷◌, ◌++◌}
 use mathlib.Core.Option.{Option, none, some}
-use Prim.Native.Nat.{ℕ, ◌+◌, ◌*◌}
-use lib.IntN.{ℤ, pos, negsuc}
-use lib.ListN.{get_or, length, replicate}
+use Prim.Native.Nat.{ℕ}
+use lib.ListN.{get_or, replicate}
 use lib.Ieee.{Float, binary64, nan, of_int, of_bits, add, sub, mul, div}
 use lib.Ieee as Ieee
-use Rattle.scope.specs.declared.records.Point.{Point}
-use Rattle.scope.specs.declared.records.Counts.{Counts}
-use Rattle.scope.specs.declared.answers.Place.{Place}
-use Rattle.scope.specs.declared.answers.Place.TheVariants.{AtVertex, AtHalfedge, AtEdge, AtFace}
-use Rattle.scope.specs.declared.answers.Fault.{Fault}
+use Rattle.scope.specs.declared.answers.Place.TheVariants.{AtVertex, AtHalfedge, AtFace}
 use Rattle.scope.specs.declared.answers.Refusal.{Refusal}
-use Rattle.scope.specs.declared.answers.Refusal.TheVariants.{TooManyPasses, ShortSlice, NotConsistent, MarkedDeleted, NoRoom, NoWeight, BadHandle, CannotInsertEdge, HalfedgesNotInTheSameLoop, NotDeletedFace, ComplexVertex, CannotSwapBoundaryEdge, WouldBreak}
-use Rattle.scope.specs.declared.answers.Subdivided.{Subdivided}
-use Rattle.scope.specs.declared.answers.Subdivided.TheVariants.{Done, Refused}
-use Rattle.scope.specs.declared.answers.Edited.{Edited}
+use Rattle.scope.specs.declared.answers.Refusal.TheVariants.{NoRoom, HalfedgesNotInTheSameLoop, WouldBreak}
 use Rattle.scope.specs.declared.answers.Edited.TheVariants.{Changed, Unchanged}
 use Rattle.scope.specs.Answers.{said_checked, said_subdivided, said_edited}
-use Rattle.scope.specs.Call.{Outcome, Scheme, links, points, tally, turned, heavy, begin, final, work_needed, enough, unwanted, overweight, refusal, last_links, last_flag, last_points, last_marks, subdivided, left_after, ended, call, then, onward}
+use Rattle.scope.specs.Call.{Scheme, links, points, tally, turned, heavy, begin, final, work_needed, enough, unwanted, overweight, refusal, last_links, last_flag, last_points, last_marks, subdivided, left_after, ended, call, then, onward}
 use Rattle.scope.specs.Check.{every, c1_vertex, c1_halfedge, c1_face, c2, c3, c4, c5, c6, c7, c8, c9, fault, set_mark, marked}
-use Rattle.scope.specs.EditCalls.{Own, EditOutcome, Edit, unmarked_new, written, edit_ended, edit_refusal, edit, split_edge_edit, split_face_edit, insert_edge_edit, swap_denied, swap_ccw_edit, swap_cw_edit, triangulate_all}
+use Rattle.scope.specs.EditCalls.{unmarked_new, written, edit_ended, edit_refusal, edit, split_edge_edit, split_face_edit, insert_edge_edit, swap_denied, swap_ccw_edit, swap_cw_edit, triangulate_all}
 use Rattle.scope.specs.Edits.{split_edge, joined, paint, across_face, across_hole, insert_edge, insert_new, cut_off, cut_corner, triangulate_face, triangulate, petal, petals, fan, singles, split_face, swap_ccw, swap_cw}
 use Rattle.scope.specs.Links.{NONE, partner, loop, around, is_v, is_e, is_h, is_f}
 use Rattle.scope.specs.Lists.{put, lay, over, each, range, round, only, has, distinct, first, all, number_of, sum}
 use Rattle.scope.specs.Passes.{split_edges, from_old, pairs, catmull_face, catmull_pass, corners, loop_face, loop_pass, rim_of, rim_side, rim_face, centre_face, sqrt_face, swap_inner, sqrt_pass}
 use Rattle.scope.specs.Point.{zero_p, add_p, scale_p, over_p}
-use Rattle.scope.specs.Points.{point_at, flat, plus, heads, face_point, catmull_edge, catmull_rim, catmull_inner, catmull_vertex, catmull_points, inner, on_rim, loop_edge_point, loop_vertex, loop_points, sqrt_vertex, sqrt_answer, answers, sqrt_points}
+use Rattle.scope.specs.Points.{flat, plus, heads, face_point, catmull_edge, catmull_rim, catmull_inner, catmull_vertex, catmull_points, inner, on_rim, loop_edge_point, loop_vertex, loop_points, sqrt_vertex, sqrt_answer, answers, sqrt_points}
 use Rattle.scope.specs.Rules.{cc_edge, middle, cc_inner, loop_edge, loop_rim, weighted, sqrt_rim, sqrt_pair}
 use Rattle.scope.specs.Schemes.{crowded, two_rims, catmull, loop_scheme, sqrt3}
-use Rattle.scope.specs.Slices.{Given, Buffers, Slices, Sizes, sizes, fits, fits_with, used, links_of, marks_of, points_of, clean, filled, wiped}
+use Rattle.scope.specs.Slices.{Given, sizes, fits, fits_with, used, links_of, marks_of, points_of, clean, filled, wiped}
 use Rattle.scope.specs.Tally.{counts_of, tally_of, counted, triangulated, catmull_tally, loop_tally, sqrt_tally}
 use Rattle.scope.specs.Weights.{dec, row}
-use Rattle.scope.proofs.Recorded.{mesh, zero, seven, all_of, lent, zeros, done, refused, refuses, own, gives, wrong}
+use Rattle.scope.proofs.Recorded.{mesh, zero, lent, done, own, gives, wrong}
 
 check-25 :
     wrong (mesh 4 5 2 (0 ∷ 2 ∷ 4 ∷ 7 ∷ []) (NONE ∷ 2 ∷ 4 ∷ 7 ∷ 0 ∷ 0 ∷ 8 ∷ 5 ∷ NONE ∷ 3 ∷ 7 ∷ 4 ∷ 1 ∷ 1 ∷ 9 ∷ 6 ∷ NONE ∷ 1 ∷ 2 ∷ 0 ∷ 0 ∷ 2 ∷ 1 ∷ 8 ∷ 1 ∷ 3 ∷ 3 ∷ 9 ∷ NONE ∷ 0 ∷ 0 ∷ 2 ∷ 0 ∷ 1 ∷ 5 ∷ 1 ∷ 1 ∷ 0 ∷ 6 ∷ 3 ∷ []) (1 ∷ 9 ∷ []) (0 ∷ 0 ∷ 0 ∷ 0 ∷ []) (1 ∷ 0 ∷ 0 ∷ 0 ∷ 0 ∷ []) (0 ∷ 0 ∷ []) (of_bits binary64 13837309855095848960 ∷ of_bits binary64 13849694754071117824 ∷ of_bits binary64 13846317054350589952 ∷ of_bits binary64 13849413279094407168 ∷ of_bits binary64 13830554455654793216 ∷ of_bits binary64 4623507967449235456 ∷ of_bits binary64 4616189618054758400 ∷ of_bits binary64 4613937818241073152 ∷ of_bits binary64 4622945017495814144 ∷ of_bits binary64 13849413279094407168 ∷ of_bits binary64 13848568854164275200 ∷ of_bits binary64 13841813454723219456 ∷ [])) ≡ some (record { rule = 1; place = AtVertex 0 })

@@ -1,9 +1,8 @@
 -- The answers' numbers and values (document 01, section 4). Assumes nothing.
-use Rattle.std.specs.Prelude.{ℕ, List, [], ◌∷◌, Bool, true, false}
+use Rattle.std.specs.Prelude.{ℕ, [], ◌∷◌, Bool, true, false}
 use Rattle.std.proofs.Math.Option.{Option, none, some}
 use Rattle.scope.specs.declared.answers.Place.{Place}
 use Rattle.scope.specs.declared.answers.Place.TheVariants.{AtVertex, AtHalfedge, AtEdge, AtFace}
-use Rattle.scope.specs.declared.answers.Fault.{Fault}
 use Rattle.scope.specs.declared.answers.Refusal.{Refusal}
 use Rattle.scope.specs.declared.answers.Refusal.TheVariants.{TooManyPasses, ShortSlice, NotConsistent, MarkedDeleted, NoRoom, NoWeight, BadHandle, CannotInsertEdge, HalfedgesNotInTheSameLoop, NotDeletedFace, ComplexVertex, CannotSwapBoundaryEdge, WouldBreak, BadContents, NotFinite}
 use Rattle.scope.specs.declared.answers.Said.{Said}

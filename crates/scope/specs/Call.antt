@@ -1,6 +1,6 @@
 -- A subdivision call (document 01, sections 3 and 4), over a scheme given by its parts: its answer for every input and what it leaves in every
 -- slice. Links, counts and answers are computed from links, marks, sizes, passes and the flag alone (section 7). Assumes nothing.
-use Rattle.std.specs.Prelude.{ℕ, zero, suc, ◌+◌, ◌*◌, Bool, true, false, not, ◌&&◌, List, [], ◌∷◌, leb, ltb, length, Float}
+use Rattle.std.specs.Prelude.{ℕ, zero, suc, ◌+◌, ◌*◌, Bool, not, ◌&&◌, List, leb, ltb, length, Float}
 use Rattle.std.proofs.Math.Option.{Option, none, some}
 use Rattle.scope.specs.declared.records.Counts.{Counts}
 use Rattle.scope.specs.declared.answers.Place.{Place}
@@ -12,7 +12,7 @@ use Rattle.scope.specs.Lists.{if, ◌or_else◌}
 use Rattle.scope.specs.Links.{Links, Marks}
 use Rattle.scope.specs.Check.{fault, marked}
 use Rattle.scope.specs.Tally.{Tally, tally_of, counts_of, counted}
-use Rattle.scope.specs.Slices.{Slices, Given, Buffers, Sizes, sizes, fits_with, links_of, marks_of, points_of, clean, slices_of, filled, wiped}
+use Rattle.scope.specs.Slices.{Given, Buffers, Sizes, sizes, fits_with, links_of, marks_of, points_of, clean, slices_of, filled, wiped}
 use Rattle.scope.specs.Answers.{said_of, refuse_if, refuse}
 
 -- ---- a scheme by its parts

@@ -1,11 +1,11 @@
 -- Consistency (document 01, section 2): the lowest broken rule of C1 to C9 and, under it, the first place; and what is marked deleted. Assumes nothing.
-use Rattle.std.specs.Prelude.{ℕ, zero, suc, ◌*◌, ◌/◌, Bool, true, false, not, ◌&&◌, ◌||◌, List, [], ◌∷◌, map, eqb, leb, ltb, get_or, length}
+use Rattle.std.specs.Prelude.{ℕ, ◌*◌, Bool, true, not, ◌&&◌, ◌||◌, List, map, eqb, leb, get_or, length}
 use Rattle.std.proofs.Math.Option.{Option, none, some}
 use Rattle.scope.specs.declared.answers.Place.{Place}
 use Rattle.scope.specs.declared.answers.Place.TheVariants.{AtVertex, AtHalfedge, AtEdge, AtFace}
 use Rattle.scope.specs.declared.answers.Fault.{Fault}
 use Rattle.scope.specs.Lists.{if, has, distinct, first, all, ◌or_else◌}
-use Rattle.scope.specs.Links.{Links, Marks, NONE, partner, face, head, next, prev, out, start, tail, rim, isolated, loop, around, is_v, is_h, is_f}
+use Rattle.scope.specs.Links.{Links, Marks, partner, face, head, next, prev, out, start, tail, rim, isolated, loop, around, is_v, is_h, is_f}
 
 abbrev pub broken : ℕ → (ℕ → Place) → Option ℕ → Option Fault
 broken r p none = none

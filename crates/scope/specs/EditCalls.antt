@@ -1,5 +1,5 @@
 -- The edits as calls on their own mesh (document 01, section 4): their answers in order, and what they leave in every slice. Assumes nothing.
-use Rattle.std.specs.Prelude.{ℕ, zero, suc, ◌+◌, ◌-◌, ◌*◌, Bool, true, false, not, ◌&&◌, ◌||◌, List, [], ◌∷◌, ◌++◌, map, eqb, ltb, length, replicate}
+use Rattle.std.specs.Prelude.{ℕ, ◌+◌, ◌-◌, ◌*◌, Bool, true, false, not, ◌&&◌, ◌||◌, List, ◌++◌, map, eqb, ltb, length, replicate}
 use Rattle.std.proofs.Math.Option.{Option, none, some}
 use Rattle.scope.specs.declared.records.Counts.{Counts}
 use Rattle.scope.specs.declared.answers.Refusal.{Refusal}

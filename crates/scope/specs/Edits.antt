@@ -1,5 +1,5 @@
 -- The edits as the source has them, each a run of single changes (document 01, sections 1, 3 and 4). Assumes nothing.
-use Rattle.std.specs.Prelude.{ℕ, zero, suc, ◌+◌, ◌-◌, ◌*◌, ◌%◌, Bool, true, false, List, [], ◌∷◌, eqb, length}
+use Rattle.std.specs.Prelude.{ℕ, suc, ◌+◌, ◌-◌, ◌*◌, ◌%◌, List, [], ◌∷◌, eqb, length}
 use Rattle.scope.specs.Lists.{each, if, has}
 use Rattle.scope.specs.Links.{Links, partner, face, head, next, prev, out, start, tail, rim, loop, ◌▸◌, face_is, head_is, next_is, prev_is, out_is, start_is, link, half, more}
 

@@ -1,5 +1,5 @@
 -- The mesh (document 01, section 2): its links, its marks, loops and turns, the rim; and the single changes that edits are made of. Assumes nothing.
-use Rattle.std.specs.Prelude.{ℕ, zero, suc, ◌+◌, ◌-◌, ◌*◌, ◌/◌, ◌%◌, Bool, true, false, ◌&&◌, ◌||◌, List, [], ◌∷◌, eqb, ltb, get_or}
+use Rattle.std.specs.Prelude.{ℕ, ◌+◌, ◌-◌, ◌*◌, ◌/◌, ◌%◌, Bool, ◌&&◌, ◌||◌, List, [], eqb, ltb, get_or}
 use Rattle.scope.specs.Lists.{put, round, if}
 
 -- §2: counts; a leaving halfedge for each vertex; face, head, next, prev for each halfedge, eight words an edge; a halfedge for each face

@@ -1,5 +1,5 @@
 -- The links of one pass of each scheme (document 01, section 3). Assumes nothing.
-use Rattle.std.specs.Prelude.{ℕ, zero, suc, ◌+◌, ◌-◌, ◌*◌, Bool, true, false, ◌&&◌, List, [], ◌∷◌, eqb, ltb, length}
+use Rattle.std.specs.Prelude.{ℕ, suc, ◌+◌, ◌*◌, Bool, List, [], ◌∷◌, ltb}
 use Rattle.std.proofs.Math.Option.{Option, none, some}
 use Rattle.scope.specs.Lists.{each, if}
 use Rattle.scope.specs.Links.{Links, partner, head, next, prev, start, rim, rim_edge, loop, ◌▸◌, out_is, more}

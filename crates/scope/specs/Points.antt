@@ -1,6 +1,6 @@
 -- The points of one pass of each scheme (document 01, section 3), from the links and points before it. Assumes nothing.
-use Rattle.std.specs.Prelude.{ℕ, zero, suc, ◌+◌, ◌*◌, ◌/◌, Bool, true, false, not, ◌&&◌, ◌||◌, List, [], ◌∷◌, ◌++◌, map, eqb, leb, pos, get_or, length, Float}
-use Rattle.std.proofs.Math.Option.{Option, none, some}
+use Rattle.std.specs.Prelude.{ℕ, suc, ◌+◌, ◌*◌, ◌/◌, Bool, true, not, ◌&&◌, List, [], ◌∷◌, ◌++◌, map, eqb, pos, get_or, length, Float}
+use Rattle.std.proofs.Math.Option.{none, some}
 use Rattle.std.specs.Float.{nan, binary64}
 use Rattle.std.specs.Float.Ieee.{of_int}
 use Rattle.scope.specs.declared.records.Point.{Point}
@@ -10,7 +10,7 @@ use Rattle.scope.specs.Point.{add_p, over_p, zero_p}
 use Rattle.scope.specs.Rules.{cc_edge, cc_inner, middle, loop_edge, loop_rim, weighted, sqrt_rim, sqrt_pair}
 use Rattle.scope.specs.Weights.{row, loop_rows, sqrt_rows}
 use Rattle.scope.specs.Lists.{range, if, only}
-use Rattle.scope.specs.Links.{Links, NONE, partner, face, head, next, prev, out, start, tail, rim, rim_edge, rim_vertex, loop, around}
+use Rattle.scope.specs.Links.{Links, NONE, partner, face, head, next, prev, out, start, tail, rim_edge, rim_vertex, loop, around}
 use Rattle.scope.specs.Passes.{rim_side}
 
 -- the point of vertex v; three numbers for each of ps

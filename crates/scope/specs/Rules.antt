@@ -4,8 +4,8 @@ use Rattle.std.specs.Float.{binary64}
 use Rattle.std.specs.Float.Ieee.{of_bits, of_int, sub}
 use Rattle.scope.specs.declared.records.Point.{Point}
 use Rattle.scope.specs.declared.records.FacePoints.{FacePoints}
-use Rattle.scope.specs.declared.records.FacePoints.TheVariants.{Centre, Pair}
-use Rattle.scope.specs.Point.{add_p, scale_p, over_p, zero_p}
+use Rattle.scope.specs.declared.records.FacePoints.TheVariants.{Pair}
+use Rattle.scope.specs.Point.{add_p, scale_p, over_p}
 
 -- the numbers of the rules
 abbrev pub n0_25 : Float

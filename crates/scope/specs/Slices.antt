@@ -1,5 +1,5 @@
 -- What is handed over and what is lent (document 01, sections 2 and 4). Assumes nothing.
-use Rattle.std.specs.Prelude.{ℕ, ◌*◌, Bool, true, false, ◌&&◌, List, [], ◌∷◌, leb, length, take, replicate, Float}
+use Rattle.std.specs.Prelude.{ℕ, ◌*◌, Bool, ◌&&◌, List, [], leb, length, take, replicate, Float}
 use Rattle.std.specs.Float.{binary64}
 use Rattle.std.specs.Float.Ieee.{of_bits}
 use Rattle.scope.specs.declared.records.Counts.{Counts}

@@ -1,5 +1,5 @@
 -- Counts, and document 01's table of them (section 3). Assumes nothing.
-use Rattle.std.specs.Prelude.{ℕ, zero, suc, ◌+◌, ◌-◌, ◌*◌, Bool, true, false, length}
+use Rattle.std.specs.Prelude.{ℕ, ◌+◌, ◌-◌, ◌*◌, Bool, length}
 use Rattle.scope.specs.declared.records.Counts.{Counts}
 use Rattle.scope.specs.Lists.{if, number_of, sum}
 use Rattle.scope.specs.Links.{Links, start, rim_edge, loop}

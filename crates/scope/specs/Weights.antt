@@ -1,6 +1,6 @@
 -- The two weight tables of the source, a row for each valence: each number is the f64 nearest to a decimal, given in units of 10 ^ -19.
 -- Row 0 (f64::MAX in the source) is never read.
-use Rattle.std.specs.Prelude.{ℕ, zero, suc, ◌^◌, false, List, [], ◌∷◌, get_or, Float}
+use Rattle.std.specs.Prelude.{ℕ, ◌^◌, false, List, [], ◌∷◌, get_or, Float}
 use Rattle.std.specs.Float.{binary64}
 use Rattle.std.specs.Float.Ieee.{round}
 use Rattle.scope.specs.declared.records.Weights.{Weights}

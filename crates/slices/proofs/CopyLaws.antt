@@ -5,7 +5,7 @@ use mathlib.Core.List.{List, [], ◌∷◌}
 use native.Mathlib.Omega.{arith}
 use lib.ListN.{length, get_or, set, take}
 use Rattle.scope.specs.Lists.{lay, over}
-use Rattle.mesh.proofs.SliceLaws.{length-lay, length_over}
+use Rattle.mesh.proofs.SliceLaws.{length_over}
 
 -- ---- copying
 pub copy-next : {A : Type 0} (src dst : List A) (i : ℕ) (d : A) → i < length src → i < length dst →

@@ -8,7 +8,6 @@ use native.Mathlib.Omega.{arith}
 use borrow.Author.Tests.{lt-ltb, le-ltb, ltb-true, ltb-false}
 use lib.Dec.{ltb}
 use lib.ListN.{length, set, length-append}
-use Rattle.scope.specs.Lists.{if}
 use Rattle.text.specs.Text.{over_from, digits_of, decimal, signed}
 use Rattle.text.proofs.PutLaws.{next-to, store-one}
 

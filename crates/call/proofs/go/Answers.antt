@@ -1,8 +1,6 @@
-use mathlib.Core.Path.{◌∙◌}
 use Rattle.check_mesh.specs.Checked.{slices_at}
 use Rattle.call_steps.specs.Lent.{buffers_at}
 use Rattle.call.proofs.GoLaws.{takes-new, points-new, prepare-ready, run-there, ends_through, ends-stopped}
-use borrow.Author.Rules.{rules}
 use Rattle.call.proofs.go.Goals as goal
 
 pub copy_links-requires : goal.copy_links-requires

@@ -1,7 +1,6 @@
 use Prim.Native.Nat.{◌*◌}
 use mathlib.Core.Path.{sym, ap, ◌∙◌}
 use native.Mathlib.Omega.{arith}
-use borrow.Author.Tests.{not-true, not-false}
 use lib.Seq.{length-take-le}
 use Rattle.scope.specs.declared.answers.Refusal.TheVariants.{NoRoom}
 use Rattle.scope.specs.declared.answers.Subdivided.TheVariants.{Done, Refused}
@@ -13,7 +12,6 @@ use Rattle.call_room.specs.Kinds.{scheme_of, sides_of}
 use Rattle.call_room.proofs.KindLaws.{laws-of}
 use Rattle.call_steps.specs.Lent.{given_at, buffers_at, outcome_at}
 use Rattle.call.proofs.CallLaws.{seen-refused, seen-clear, fits-given, up-faced, room-judged, ends-full, fits-zero, ends-copied, ends-ready, ends-gone}
-use borrow.Author.Rules.{rules}
 use Rattle.call.proofs.subdivide.Goals as goal
 
 pub overflow_mul-used : goal.overflow_mul-used

@@ -1,5 +1,4 @@
 use Rattle.links_split.proofs.FirstLaws.{old-here, old-next}
-use borrow.Author.Rules.{rules}
 use Rattle.links_split.proofs.first_old.Goals as goal
 
 pub returns-then-head-old : goal.returns-then-head-old

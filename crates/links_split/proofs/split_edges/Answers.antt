@@ -1,13 +1,6 @@
-use Prim.Native.Nat.{◌-◌, ◌≤◌}
-use mathlib.Core.Path.{◌≡◌, refl, ◌∙◌}
-use mathlib.Core.List.{[]}
-use lib.ListN.{length}
+use mathlib.Core.Path.{refl, ◌∙◌}
 use native.Mathlib.Omega.{arith}
-use borrow.Author.Rules.{rules}
 use Rattle.scope.specs.Lists.{each}
-use Rattle.scope.specs.Links.{Links}
-use Rattle.links_edits.specs.Held.{held}
-use Rattle.links_split.specs.Splits.{split_to}
 use Rattle.links_split.proofs.SplitsLaws.{split-on-outs, split-on-edges, split_done}
 use Rattle.links_split.proofs.split_edges.Goals as goal
 

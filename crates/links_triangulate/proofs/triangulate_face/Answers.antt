@@ -1,11 +1,6 @@
-use Prim.Native.Nat.{◌+◌, ◌-◌, ◌≤◌}
-use mathlib.Core.Path.{◌≡◌, refl, ◌∙◌}
-use lib.ListN.{length}
+use mathlib.Core.Path.{refl, ◌∙◌}
 use native.Mathlib.Omega.{arith}
-use borrow.Author.Rules.{rules}
-use Rattle.links_edits.specs.Held.{given}
-use Rattle.links_triangulate.specs.Trim.{sides}
-use Rattle.links_triangulate.proofs.TrimLaws.{Trimming, face_in, few-c, first-has, then-has, trim_start, trim-counts, trim-small, trim-done, corner-ok, corner-has, corner-on}
+use Rattle.links_triangulate.proofs.TrimLaws.{face_in, few-c, first-has, then-has, trim_start, trim-counts, trim-small, trim-done, corner-ok, corner-has, corner-on}
 use Rattle.links_triangulate.proofs.triangulate_face.Goals as goal
 
 pub start-a-requires : goal.start-a-requires

@@ -1,11 +1,9 @@
 use Prim.Native.Nat.{◌+◌, ◌-◌, ◌≤◌}
-use mathlib.Core.Path.{◌≡◌, refl, ◌∙◌}
+use mathlib.Core.Path.{◌≡◌}
 use lib.ListN.{length}
-use native.Mathlib.Omega.{arith}
-use borrow.Author.Rules.{rules}
 use Rattle.links_edits.specs.Held.{given}
 use Rattle.links_triangulate.specs.Trim.{sides}
-use Rattle.links_triangulate.proofs.TrimLaws.{Trimming, face_in, few-c, first-has, then-has, trim_start, trim-counts, trim-small, trim-done, corner-ok, corner-has, corner-on}
+use Rattle.links_triangulate.proofs.TrimLaws.{Trimming}
 use Rattle.links_triangulate.proofs.triangulate_face.Given as goal
 
 abbrev pub invariant-loop-n : goal.invariant-loop-n

@@ -1,11 +1,5 @@
-use Prim.Native.Nat.{◌-◌, ◌≤◌}
-use mathlib.Core.Path.{◌≡◌, refl, ◌∙◌}
-use lib.ListN.{length}
+use mathlib.Core.Path.{refl, ◌∙◌}
 use native.Mathlib.Omega.{arith}
-use borrow.Author.Rules.{rules}
-use Rattle.links_edits.specs.Held.{given}
-use Rattle.scope.specs.Edits.{triangulate_face}
-use Rattle.links_edits.proofs.FoldLaws.{Facing}
 use Rattle.links_triangulate.proofs.FaceLaws.{faces-start, faces-few, faces-ok, faces-on, faces-done}
 use Rattle.links_triangulate.proofs.triangulate_links.Goals as goal
 

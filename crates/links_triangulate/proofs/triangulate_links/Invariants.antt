@@ -1,12 +1,9 @@
 use Prim.Native.Nat.{◌-◌, ◌≤◌}
-use mathlib.Core.Path.{◌≡◌, refl, ◌∙◌}
+use mathlib.Core.Path.{◌≡◌}
 use lib.ListN.{length}
-use native.Mathlib.Omega.{arith}
-use borrow.Author.Rules.{rules}
 use Rattle.links_edits.specs.Held.{given}
 use Rattle.scope.specs.Edits.{triangulate_face}
 use Rattle.links_edits.proofs.FoldLaws.{Facing}
-use Rattle.links_triangulate.proofs.FaceLaws.{faces-start, faces-few, faces-ok, faces-on, faces-done}
 use Rattle.links_triangulate.proofs.triangulate_links.Given as goal
 
 abbrev pub invariant-loop-f : goal.invariant-loop-f

@@ -1,4 +1,3 @@
-use borrow.Author.Rules.{rules}
 use Rattle.scope.specs.Rules.{cc_edge}
 use Rattle.points.proofs.cc_edge.Goals as goal
 

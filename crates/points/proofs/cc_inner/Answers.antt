@@ -1,4 +1,3 @@
-use borrow.Author.Rules.{rules}
 use Rattle.scope.specs.Rules.{cc_inner}
 use Rattle.points.proofs.cc_inner.Goals as goal
 

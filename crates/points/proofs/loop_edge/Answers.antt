@@ -1,4 +1,3 @@
-use borrow.Author.Rules.{rules}
 use Rattle.scope.specs.Rules.{loop_edge}
 use Rattle.points.proofs.loop_edge.Goals as goal
 

@@ -1,4 +1,3 @@
-use borrow.Author.Rules.{rules}
 use Rattle.scope.specs.Rules.{loop_rim}
 use Rattle.points.proofs.loop_rim.Goals as goal
 

@@ -1,4 +1,3 @@
-use borrow.Author.Rules.{rules}
 use Rattle.scope.specs.Rules.{middle}
 use Rattle.points.proofs.middle.Goals as goal
 

@@ -1,4 +1,3 @@
-use borrow.Author.Rules.{rules}
 use Rattle.scope.specs.Rules.{sqrt_pair}
 use Rattle.points.proofs.sqrt_pair.Goals as goal
 

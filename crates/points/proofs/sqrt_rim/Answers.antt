@@ -1,4 +1,3 @@
-use borrow.Author.Rules.{rules}
 use Rattle.scope.specs.Rules.{sqrt_rim}
 use Rattle.points.proofs.sqrt_rim.Goals as goal
 

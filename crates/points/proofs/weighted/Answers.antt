@@ -1,4 +1,3 @@
-use borrow.Author.Rules.{rules}
 use Rattle.scope.specs.Rules.{weighted}
 use Rattle.points.proofs.weighted.Goals as goal
 

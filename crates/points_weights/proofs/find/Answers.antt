@@ -1,4 +1,3 @@
-use borrow.Author.Rules.{rules}
 use borrow.Author.Tests.{lt-ltb, le-ltb}
 use Rattle.points_weights.specs.Tables.{found}
 use Rattle.points_weights.proofs.find.Goals as goal

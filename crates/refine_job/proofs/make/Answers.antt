@@ -1,5 +1,4 @@
 use Rattle.refine_job.proofs.JobLaws.{made-done, made-refused, within-refused}
-use borrow.Author.Rules.{rules}
 use Rattle.refine_job.proofs.make.Goals as goal
 
 pub returns-in-Done : goal.returns-in-Done

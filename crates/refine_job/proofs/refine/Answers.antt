@@ -5,7 +5,6 @@ use Rattle.call_room.specs.Kinds.{scheme_of}
 use Rattle.file_read.specs.Format.{lent_at}
 use Rattle.call_steps.specs.Lent.{buffers_at}
 use Rattle.refine_job.proofs.JobLaws.{left-read, left-refused, within-refused}
-use borrow.Author.Rules.{rules}
 use Rattle.refine_job.proofs.refine.Goals as goal
 
 pub slice_bounds-given-end-2 : goal.slice_bounds-given-end-2

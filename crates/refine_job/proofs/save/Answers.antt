@@ -1,6 +1,5 @@
 use Rattle.check_mesh.specs.Checked.{slices_at}
 use Rattle.refine_job.proofs.JobLaws.{room-written, size-written, saved-written, saved-refused, within-written, within-refused}
-use borrow.Author.Rules.{rules}
 use Rattle.refine_job.proofs.save.Goals as goal
 
 pub rim_edges-rim-requires : goal.rim_edges-rim-requires

@@ -1,8 +1,5 @@
-use borrow.Author.Rules.{rules}
 use native.Mathlib.Omega.{arith}
-use Prim.Native.Nat.{◌-◌}
-use lib.ListN.{length}
-use Rattle.text.proofs.PutLaws.{one, Puts, puts_none, put_on, put_all}
+use Rattle.text.proofs.PutLaws.{puts_none, put_on, put_all}
 use Rattle.text.proofs.put.Goals as goal
 
 pub loop-i-init : goal.loop-i-init

@@ -1,4 +1,3 @@
-use borrow.Author.Rules.{rules}
 use Rattle.text.proofs.DecimalLaws.{minus-put, plain-put}
 use Rattle.text.proofs.put_signed.Goals as goal
 

@@ -1,6 +1,5 @@
 use mathlib.Core.Path.{refl}
 use Rattle.scope.specs.Tally.{catmull_tally}
-use borrow.Author.Rules.{rules}
 use Rattle.call_room.proofs.forecast.catmull.Goals as goal
 
 pub returns : goal.returns

@@ -1,9 +1,6 @@
-use borrow.Author.Rules.{rules}
-use Rattle.call_room.proofs.AheadLaws.{ahead-start, ahead-next, ahead-over, ahead-done}
 use Rattle.call_room.specs.Kinds.{scheme_of}
 use Rattle.call_room.specs.Ahead.{AheadOf}
 use Rattle.call_room.specs.Amounts.{tallied}
-use Rattle.laws_check.proofs.Tells.{is-so, is-not}
 use Rattle.call_room.proofs.forecast.forecast.Given as goal
 
 abbrev pub invariant-loop-left : goal.invariant-loop-left

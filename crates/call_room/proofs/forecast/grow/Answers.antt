@@ -6,7 +6,6 @@ use Rattle.call_room.specs.declared.kind.Kind.{Kind}
 use Rattle.call_room.specs.declared.kind.Kind.TheVariants.{Catmull}
 use Rattle.call_room.specs.Kinds.{scheme_of}
 use Rattle.call_room.specs.Amounts.{tallied}
-use borrow.Author.Rules.{rules}
 use Rattle.call_room.proofs.forecast.grow.Goals as goal
 
 of-kind : (kind : Kind) (flag : Bool) (t : Tally) → catmull_tally t ≡ (scheme_of kind).grow flag t

@@ -1,5 +1,4 @@
 use mathlib.Core.Path.{◌∙◌, sym}
-use borrow.Author.Rules.{rules}
 use Rattle.call_room.proofs.tally.corner.Goals as goal
 
 pub returns-then-rim : goal.returns-then-rim

@@ -1,6 +1,4 @@
-use native.Mathlib.Omega.{arith}
-use borrow.Author.Rules.{rules}
-use Rattle.call_room.proofs.TallyLaws.{Counted, none-counted, one-counted, counted-few, counted-all, bit-of}
+use Rattle.call_room.proofs.TallyLaws.{Counted}
 use Rattle.mesh.specs.Rounds.{rim_at}
 use mathlib.Core.Bool.{not}
 use Prim.Native.Nat.{◌≤◌, ◌-◌}

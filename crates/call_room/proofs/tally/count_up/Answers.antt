@@ -3,7 +3,6 @@ use mathlib.Core.Bool.{not}
 use Prim.Native.Nat.{◌*◌}
 use Rattle.call_room.proofs.TallyLaws.{number-below}
 use Rattle.call_room.specs.Amounts.{amounts_at}
-use borrow.Author.Rules.{rules}
 use Rattle.call_room.proofs.tally.count_up.Goals as goal
 
 pub overflow_sub-result : goal.overflow_sub-result

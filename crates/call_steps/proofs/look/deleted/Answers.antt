@@ -1,5 +1,4 @@
 use Rattle.call_steps.proofs.LookLaws.{face-deleted, edge-deleted, vertex-deleted, none-deleted}
-use borrow.Author.Rules.{rules}
 use Rattle.call_steps.proofs.look.deleted.Goals as goal
 
 pub returns-in-At : goal.returns-in-At

@@ -3,7 +3,6 @@ use lib.ListN.{length}
 use Rattle.check_mesh.specs.Checked.{slices_at}
 use mathlib.Core.Path.{◌∙◌}
 use Rattle.call_steps.proofs.LookLaws.{looked-many, looked-checked, looked-zero, looked-on, few-marks}
-use borrow.Author.Rules.{rules}
 use Rattle.call_steps.proofs.look.look.Goals as goal
 
 pub returns-then-passes-gt12 : goal.returns-then-passes-gt12

@@ -1,6 +1,5 @@
 use native.Mathlib.Omega.{arith}
 use Rattle.call_steps.proofs.PassLaws.{links-ready, after-few, after-work, after-points, goes}
-use borrow.Author.Rules.{rules}
 use Rattle.call_steps.proofs.passes.catmull_pass.Goals as goal
 
 pub catmull_links-d-requires : goal.catmull_links-d-requires

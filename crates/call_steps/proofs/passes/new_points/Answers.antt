@@ -6,7 +6,6 @@ use Rattle.scope.specs.Tally.{counts_of}
 use lib.Seq.{length-take-le}
 use lib.ListN.{length, take}
 use Prim.Native.Nat.{◌*◌, ◌≤◌}
-use borrow.Author.Rules.{rules}
 use Rattle.call_steps.proofs.passes.new_points.Goals as goal
 
 pub slice_bounds-catmull_points-end : goal.slice_bounds-catmull_points-end

@@ -1,5 +1,4 @@
 use Rattle.call_steps.proofs.PassLaws.{alone}
-use borrow.Author.Rules.{rules}
 use Rattle.call_steps.proofs.passes.pass.Goals as goal
 
 pub catmull_pass-requires : goal.catmull_pass-requires

@@ -1,9 +1,6 @@
-use Prim.Native.Nat.{◌*◌, ◌-◌}
-use mathlib.Core.Path.{◌≡◌, ◌∙◌}
-use borrow.Author.Rules.{rules}
-use lib.ListN.{length, take}
-use Rattle.links_edits.specs.Held.{given}
-use Rattle.call_steps.proofs.RunLaws.{Running, lengths, run-start, run-ready, run-next, run-stops, run-done}
+use mathlib.Core.Path.{◌≡◌}
+use lib.ListN.{length}
+use Rattle.call_steps.proofs.RunLaws.{run-start, run-ready, run-next, run-stops, run-done}
 use Rattle.call_steps.proofs.passes.run.Goals as goal
 
 pub loop-done-init : goal.loop-done-init

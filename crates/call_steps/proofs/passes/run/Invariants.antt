@@ -1,9 +1,7 @@
 use Prim.Native.Nat.{◌*◌, ◌-◌}
-use mathlib.Core.Path.{◌≡◌, ◌∙◌}
-use borrow.Author.Rules.{rules}
-use lib.ListN.{length, take}
+use lib.ListN.{take}
 use Rattle.links_edits.specs.Held.{given}
-use Rattle.call_steps.proofs.RunLaws.{Running, lengths, run-start, run-ready, run-next, run-stops, run-done}
+use Rattle.call_steps.proofs.RunLaws.{Running}
 use Rattle.call_steps.proofs.passes.run.Given as goal
 
 abbrev pub invariant-loop-done : goal.invariant-loop-done

@@ -6,7 +6,6 @@ use Rattle.scope.specs.Slices.{sizes, fits_with}
 use Rattle.scope.specs.declared.records.Counts.{Counts}
 use lib.ListN.{length}
 use mathlib.Core.Path.{◌∙◌, ap, sym}
-use borrow.Author.Rules.{rules}
 use Rattle.call_steps.proofs.space.enough.Goals as goal
 
 pub returns-then-passes-eq0 : goal.returns-then-passes-eq0

@@ -3,7 +3,6 @@ use lib.ListN.{length}
 use Rattle.call_steps.proofs.RoomLaws.{with_points, without-points}
 use Rattle.check_mesh.specs.Checked.{slices_at}
 use Rattle.scope.specs.Slices.{sizes}
-use borrow.Author.Rules.{rules}
 use Rattle.call_steps.proofs.space.fits_with.Goals as goal
 
 pub returns-then-points-c : goal.returns-then-points-c

@@ -3,7 +3,6 @@ use native.Mathlib.Omega.{arith}
 use Rattle.check_mesh.specs.Checked.{slices_at}
 use Rattle.call_steps.specs.Lent.{buffers_at}
 use Rattle.call_steps.proofs.StoreLaws.{all-filled, takes_of, holds_of, points-of, few-of}
-use borrow.Author.Rules.{rules}
 use Rattle.call_steps.proofs.store.copy_mesh.Goals as goal
 
 pub copy_links-requires : goal.copy_links-requires

@@ -1,7 +1,6 @@
 use Rattle.check_mesh.specs.Checked.{slices_at}
 use Rattle.call_steps.specs.Lent.{buffers_at}
 use Rattle.call_steps.proofs.StoreLaws.{all-wiped}
-use borrow.Author.Rules.{rules}
 use Rattle.call_steps.proofs.store.wipe.Goals as goal
 
 pub returns : goal.returns

@@ -3,7 +3,6 @@ use Rattle.check_mesh.proofs.EntryLaws.{points-fit, points-short}
 use borrow.Author.Tests.{le-leb, lt-leb}
 use lib.ListN.{length}
 use native.Mathlib.Omega.{arith}
-use borrow.Author.Rules.{rules}
 use Rattle.check_mesh.proofs.entry.check.Goals as goal
 
 pub returns-then-points-c : goal.returns-then-points-c

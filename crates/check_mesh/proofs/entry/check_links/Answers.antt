@@ -4,7 +4,6 @@ use Rattle.scope.specs.Slices.{links_of, marks_of, used}
 use lib.Seq.{length-take-le}
 use mathlib.Core.Path.{sym}
 use native.Mathlib.Omega.{arith}
-use borrow.Author.Rules.{rules}
 use Rattle.check_mesh.proofs.entry.check_links.Goals as goal
 
 pub returns-then-not-fits : goal.returns-then-not-fits

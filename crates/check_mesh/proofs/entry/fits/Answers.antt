@@ -3,7 +3,6 @@ use Rattle.check_mesh.specs.Checked.{slices_at}
 use Rattle.check_mesh.specs.Stages.{Fits}
 use Rattle.laws_check.proofs.Tells.{denied, is-not, is-so, told}
 use native.Mathlib.Omega.{arith}
-use borrow.Author.Rules.{rules}
 use Rattle.check_mesh.proofs.entry.fits.Goals as goal
 
 pub returns-then-not-fits_in : goal.returns-then-not-fits_in

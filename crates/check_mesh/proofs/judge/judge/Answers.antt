@@ -3,7 +3,6 @@ use Rattle.check_mesh.specs.Checked.{links_at, marks_at}
 use Rattle.laws_check.specs.Judged.{broken_at, passed}
 use Rattle.check_rules.proofs.Searches.{found_all}
 use mathlib.Core.Path.{refl}
-use borrow.Author.Rules.{rules}
 use Rattle.check_mesh.proofs.judge.judge.Goals as goal
 
 pub vertices_linked-v1-requires : goal.vertices_linked-v1-requires

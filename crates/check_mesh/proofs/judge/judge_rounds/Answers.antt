@@ -5,7 +5,6 @@ use Rattle.check_rounds.proofs.TourLaws.{spun}
 use Rattle.check_rules.proofs.Searches.{found_all}
 use mathlib.Core.Option.{none}
 use mathlib.Core.Path.{refl}
-use borrow.Author.Rules.{rules}
 use Rattle.check_mesh.proofs.judge.judge_rounds.Goals as goal
 
 pub rule_4-r4-requires : goal.rule_4-r4-requires

@@ -1,6 +1,5 @@
 use Rattle.laws_check.proofs.Tells.{is-not, is-so, told}
 use mathlib.Core.Path.{◌∙◌, sym}
-use borrow.Author.Rules.{rules}
 use Rattle.check_rounds.proofs.around.alone_ok.Goals as goal
 
 pub returns-then-not-live_half : goal.returns-then-not-live_half

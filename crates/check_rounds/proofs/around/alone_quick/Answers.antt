@@ -1,14 +1,9 @@
-use Prim.Native.Nat.{◌*◌}
 use Rattle.laws_check.proofs.Tells.{denied, told}
-use Rattle.mesh.specs.Words.{face_at, head_at, next_at}
+use Rattle.mesh.specs.Words.{face_at, head_at}
 use Rattle.check_rounds.proofs.TourLaws.{only_at, perm-spin, spin-head}
 use Rattle.check_rounds.proofs.WalkLaws.{perm-next, walk-closed, walk-on, walk_start}
-use Rattle.check_rounds.specs.Tour.{Walk, spin_at}
 use Rattle.check_rules.proofs.HalfLaws.{has-partner}
-use Rattle.check_rules.specs.Place.{Half}
-use borrow.Author.Rules.{rules}
-use mathlib.Core.Logic.{◌≢◌}
-use mathlib.Core.Path.{◌∙◌, ◌≡◌, sym}
+use mathlib.Core.Path.{◌∙◌, sym}
 use native.Mathlib.Omega.{arith}
 use Rattle.check_rounds.proofs.around.alone_quick.Goals as goal
 

@@ -1,13 +1,6 @@
-use borrow.Author.Rules.{rules}
-use Prim.Native.Nat.{◌*◌, ◌≤◌}
 use Rattle.laws_check.proofs.Tells.{denied, told}
-use Rattle.mesh.specs.Words.{next_at}
 use Rattle.check_rounds.proofs.WalkLaws.{least_at, perm-next, walk-closed, walk-on, walk-reach, walk_start}
-use Rattle.check_rounds.specs.Tour.{Walk}
-use Rattle.check_rules.specs.Place.{Half}
 use Rattle.laws_mesh.proofs.Cycle.{reach-back, reach-one, reach-trans}
-use Rattle.laws_mesh.specs.Reach.{Reach}
-use mathlib.Core.Logic.{◌≢◌}
 use mathlib.Core.Path.{refl}
 use native.Mathlib.Omega.{arith}
 use Rattle.check_rounds.proofs.around.least_of_loop.Goals as goal

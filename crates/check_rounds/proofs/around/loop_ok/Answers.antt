@@ -4,7 +4,6 @@ use Rattle.check_rounds.proofs.WalkLaws.{loop-told}
 use mathlib.Core.Logic.{⊎_elim}
 use mathlib.Core.Path.{◌∙◌, sym}
 use native.Mathlib.Omega.{arith}
-use borrow.Author.Rules.{rules}
 use Rattle.check_rounds.proofs.around.loop_ok.Goals as goal
 
 pub returns-then-not-live_half : goal.returns-then-not-live_half

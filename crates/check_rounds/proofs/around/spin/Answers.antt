@@ -1,4 +1,3 @@
-use borrow.Author.Rules.{rules}
 use Rattle.check_rounds.proofs.around.spin.Goals as goal
 
 pub returns : goal.returns

@@ -4,7 +4,6 @@ use Rattle.check_rounds.proofs.WalkLaws.{turn-told}
 use Rattle.check_rules.proofs.HalfLaws.{half-partner, has-partner}
 use Rattle.scope.specs.Links.{partner}
 use native.Mathlib.Omega.{arith}
-use borrow.Author.Rules.{rules}
 use Rattle.check_rounds.proofs.around.turn_ok.Goals as goal
 
 pub returns-then-not-live_half : goal.returns-then-not-live_half

@@ -1,6 +1,5 @@
 use borrow.Author.Tests.{eq-eqb, ne_eqb}
 use mathlib.Core.Path.{◌∙◌, sym}
-use borrow.Author.Rules.{rules}
 use Rattle.check_rounds.proofs.fast.bearing_bit.Goals as goal
 
 pub returns-then-emarks-h-ne0 : goal.returns-then-emarks-h-ne0

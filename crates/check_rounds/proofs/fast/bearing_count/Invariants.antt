@@ -1,11 +1,7 @@
-use Rattle.scope.specs.Lists.{number_of}
-use Prim.Native.Nat.{◌*◌, ◌+◌, ◌-◌, ◌≤◌, ℕ}
-use Rattle.check_rounds.proofs.TourLaws.{count-few, count_next}
+use Prim.Native.Nat.{◌*◌, ◌-◌, ◌≤◌, ℕ}
 use Rattle.check_rounds.specs.Tour.{bearing}
 use Rattle.laws_mesh.specs.Count.{count}
-use borrow.Author.Rules.{rules}
-use mathlib.Core.Path.{◌≡◌, refl}
-use native.Mathlib.Omega.{arith}
+use mathlib.Core.Path.{◌≡◌}
 use Rattle.check_rounds.proofs.fast.bearing_count.Given as goal
 
 abbrev pub invariant-loop-k : goal.invariant-loop-k

@@ -3,7 +3,6 @@ use Rattle.check_rounds.proofs.RoundLaws.{loop-long, next-walk}
 use Rattle.check_rounds.proofs.TourLaws.{loop-add, tour-skip}
 use native.Mathlib.Nat.{add-zero}
 use native.Mathlib.Omega.{arith}
-use borrow.Author.Rules.{rules}
 use Rattle.check_rounds.proofs.fast.face_length.Goals as goal
 
 pub returns-then-not-live : goal.returns-then-not-live

@@ -1,7 +1,6 @@
-use Prim.Native.Nat.{◌*◌, ◌-◌, ◌≤◌}
+use Prim.Native.Nat.{◌*◌}
 use Rattle.check_rounds.proofs.TourLaws.{count-few, tour-few, tour-start}
-use Rattle.check_rounds.specs.Tour.{LoopTour, bearing}
-use borrow.Author.Rules.{rules}
+use Rattle.check_rounds.specs.Tour.{bearing}
 use mathlib.Core.Path.{◌≡◌}
 use native.Mathlib.Omega.{arith}
 use Rattle.check_rounds.proofs.fast.faces_total.Goals as goal

@@ -1,5 +1,4 @@
 use borrow.Author.Tests.{eq-eqb, ne_eqb}
-use borrow.Author.Rules.{rules}
 use Rattle.check_rounds.proofs.fast.half_bit.Goals as goal
 
 pub returns-then-emarks-h-eq0 : goal.returns-then-emarks-h-eq0

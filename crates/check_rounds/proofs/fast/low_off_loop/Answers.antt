@@ -1,6 +1,5 @@
 use Rattle.check_rounds.proofs.TourLaws.{loop-whole, low-none}
 use mathlib.Core.Path.{◌∙◌}
-use borrow.Author.Rules.{rules}
 use Rattle.check_rounds.proofs.fast.low_off_loop.Goals as goal
 
 pub returns-then-t-bearing_count : goal.returns-then-t-bearing_count

@@ -4,7 +4,6 @@ use Rattle.check_rounds.proofs.TourLaws.{tour-skip, turn-add}
 use mathlib.Core.Logic.{⊎_elim}
 use native.Mathlib.Nat.{add-zero}
 use native.Mathlib.Omega.{arith}
-use borrow.Author.Rules.{rules}
 use Rattle.check_rounds.proofs.fast.vertex_length.Goals as goal
 
 pub returns-then-not-live : goal.returns-then-not-live

@@ -1,7 +1,6 @@
-use Prim.Native.Nat.{◌*◌, ◌-◌, ◌≤◌}
+use Prim.Native.Nat.{◌*◌}
 use Rattle.check_rounds.proofs.TourLaws.{count-few, tour-few, tour-start}
-use Rattle.check_rounds.specs.Tour.{TurnTour, unmarked}
-use borrow.Author.Rules.{rules}
+use Rattle.check_rounds.specs.Tour.{unmarked}
 use mathlib.Core.Path.{◌≡◌}
 use native.Mathlib.Omega.{arith}
 use Rattle.check_rounds.proofs.fast.vertices_total.Goals as goal

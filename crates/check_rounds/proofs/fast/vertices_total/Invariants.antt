@@ -1,9 +1,5 @@
-use Prim.Native.Nat.{◌*◌, ◌-◌, ◌≤◌}
-use Rattle.check_rounds.proofs.TourLaws.{count-few, tour-few, tour-start}
-use Rattle.check_rounds.specs.Tour.{TurnTour, unmarked}
-use borrow.Author.Rules.{rules}
-use mathlib.Core.Path.{◌≡◌}
-use native.Mathlib.Omega.{arith}
+use Prim.Native.Nat.{◌-◌, ◌≤◌}
+use Rattle.check_rounds.specs.Tour.{TurnTour}
 use Rattle.check_rounds.proofs.fast.vertices_total.Given as goal
 
 abbrev pub invariant-loop-k : goal.invariant-loop-k

@@ -1,11 +1,7 @@
 use Prim.Native.Nat.{◌*◌, ◌-◌, ◌≤◌, ℕ}
 use Rattle.mesh.specs.Words.{face_at}
-use Rattle.check_rules.proofs.Searches.{low-start, low_step}
 use Rattle.check_rules.specs.Place.{Low}
 use Rattle.check_rules.specs.Rule.{Alone}
-use borrow.Author.Rules.{rules}
-use mathlib.Core.Path.{◌≡◌}
-use native.Mathlib.Omega.{arith}
 use Rattle.check_rounds.proofs.low.lowest_not_alone.Given as goal
 
 abbrev pub invariant-loop-k : goal.invariant-loop-k

@@ -1,12 +1,7 @@
-use borrow.Author.Rules.{rules}
 use Prim.Native.Nat.{◌*◌, ◌-◌, ◌≤◌, ℕ}
 use Rattle.mesh.specs.Words.{face_at}
-use Rattle.check_rounds.proofs.LeastLaws.{loops-led}
 use Rattle.check_rounds.specs.Tour.{LedLoop}
-use Rattle.check_rules.proofs.Searches.{low-start, low_step}
 use Rattle.check_rules.specs.Place.{Low}
-use mathlib.Core.Path.{◌≡◌}
-use native.Mathlib.Omega.{arith}
 use Rattle.check_rounds.proofs.low.lowest_off_loop.Given as goal
 
 abbrev pub invariant-loop-k : goal.invariant-loop-k

@@ -1,11 +1,7 @@
-use borrow.Author.Rules.{rules}
-use Prim.Native.Nat.{◌*◌, ◌-◌, ◌≤◌, ℕ}
-use Rattle.mesh.specs.Words.{tail_at}
+use Prim.Native.Nat.{◌*◌}
 use Rattle.check_rounds.proofs.LeastLaws.{turns-led}
-use Rattle.check_rounds.specs.Tour.{LedTurn}
 use Rattle.check_rules.proofs.HalfLaws.{has-partner}
 use Rattle.check_rules.proofs.Searches.{low-start, low_step}
-use Rattle.check_rules.specs.Place.{Low}
 use mathlib.Core.Path.{◌≡◌}
 use native.Mathlib.Omega.{arith}
 use Rattle.check_rounds.proofs.low.lowest_off_turn.Goals as goal

@@ -1,6 +1,5 @@
 use Rattle.check_rounds.proofs.RuleLaws.{rule-4}
 use Rattle.check_rules.proofs.Searches.{found_all}
-use borrow.Author.Rules.{rules}
 use Rattle.check_rounds.proofs.low.rule_4.Goals as goal
 
 pub all_bear-a-requires : goal.all_bear-a-requires

@@ -1,5 +1,4 @@
 use Rattle.check_rounds.proofs.RuleLaws.{rule-7}
-use borrow.Author.Rules.{rules}
 use Rattle.check_rounds.proofs.low.rule_7.Goals as goal
 
 pub all_long-a-requires : goal.all_long-a-requires

@@ -1,6 +1,5 @@
 use Rattle.check_rounds.proofs.RuleLaws.{rule-8}
 use Rattle.check_rounds.proofs.TourLaws.{turned-8}
-use borrow.Author.Rules.{rules}
 use Rattle.check_rounds.proofs.low.rule_8.Goals as goal
 
 pub returns-then-w : goal.returns-then-w

@@ -1,6 +1,5 @@
 use Rattle.laws_check.proofs.Tells.{denied, is-not, is-so, told}
 use native.Mathlib.Omega.{arith}
-use borrow.Author.Rules.{rules}
 use Rattle.check_rules.proofs.local.bears_ok.Goals as goal
 
 pub returns-then-not-live : goal.returns-then-not-live

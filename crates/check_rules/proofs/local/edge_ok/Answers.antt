@@ -2,7 +2,6 @@ use Rattle.laws_check.proofs.Tells.{denied, is-not, is-so, told}
 use Rattle.check_rules.proofs.HalfLaws.{has-partner}
 use mathlib.Core.Logic.{inl, inr, ⊎_elim}
 use mathlib.Core.Path.{◌∙◌}
-use borrow.Author.Rules.{rules}
 use Rattle.check_rules.proofs.local.edge_ok.Goals as goal
 
 pub returns-then-not-live_half : goal.returns-then-not-live_half

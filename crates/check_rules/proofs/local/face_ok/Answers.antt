@@ -1,5 +1,4 @@
 use Rattle.laws_check.proofs.Tells.{is-not, is-so, tells-map, told}
-use borrow.Author.Rules.{rules}
 use Rattle.check_rules.proofs.local.face_ok.Goals as goal
 
 pub returns-then-not-live : goal.returns-then-not-live

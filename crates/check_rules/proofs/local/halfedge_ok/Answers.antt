@@ -1,5 +1,4 @@
 use Rattle.laws_check.proofs.Tells.{is-not, is-so, tells-map, told}
-use borrow.Author.Rules.{rules}
 use Rattle.check_rules.proofs.local.halfedge_ok.Goals as goal
 
 pub returns-then-not-live_half : goal.returns-then-not-live_half

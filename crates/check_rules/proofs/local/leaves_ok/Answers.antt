@@ -2,7 +2,6 @@ use Rattle.laws_check.proofs.Tells.{denied, is-not, is-so, told}
 use Rattle.mesh.specs.Words.{link_at}
 use Rattle.check_rules.proofs.HalfLaws.{has-partner}
 use mathlib.Core.Logic.{⊎_elim}
-use borrow.Author.Rules.{rules}
 use Rattle.check_rules.proofs.local.leaves_ok.Goals as goal
 
 pub returns-then-not-live : goal.returns-then-not-live

@@ -1,5 +1,4 @@
 use Rattle.laws_check.proofs.Tells.{denied, is-not, is-so, told}
-use borrow.Author.Rules.{rules}
 use Rattle.check_rules.proofs.local.links_ok.Goals as goal
 
 pub returns-then-not-none_or_live : goal.returns-then-not-none_or_live

@@ -3,7 +3,6 @@ use Rattle.check_rules.proofs.HalfLaws.{half-partner, has-partner}
 use Rattle.scope.specs.Links.{partner}
 use mathlib.Core.Path.{◌∙◌, sym}
 use native.Mathlib.Omega.{arith}
-use borrow.Author.Rules.{rules}
 use Rattle.check_rules.proofs.local.named_ok.Goals as goal
 
 pub returns-then-not-live_half : goal.returns-then-not-live_half

@@ -2,7 +2,6 @@ use Rattle.laws_check.proofs.Tells.{denied, is-not, is-so, told}
 use Rattle.mesh.specs.Words.{next_at}
 use Rattle.check_rules.proofs.HalfLaws.{has-partner}
 use native.Mathlib.Omega.{arith}
-use borrow.Author.Rules.{rules}
 use Rattle.check_rules.proofs.local.sew_ok.Goals as goal
 
 pub returns-then-not-live_half : goal.returns-then-not-live_half

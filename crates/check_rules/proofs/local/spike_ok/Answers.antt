@@ -1,5 +1,4 @@
 use Rattle.laws_check.proofs.Tells.{denied, is-not, is-so, told}
-use borrow.Author.Rules.{rules}
 use Rattle.check_rules.proofs.local.spike_ok.Goals as goal
 
 pub returns-then-not-live_half : goal.returns-then-not-live_half

@@ -1,11 +1,6 @@
 use Prim.Native.Nat.{◌*◌, ◌-◌, ◌<◌, ◌≤◌, ℕ}
-use Rattle.laws_check.proofs.Tells.{is-not, is-so}
-use Rattle.check_rules.proofs.Searches.{found_here, found_none}
 use Rattle.check_rules.specs.Place.{Half}
 use Rattle.check_rules.specs.Rule.{R5}
-use borrow.Author.Count.{below_more}
-use borrow.Author.Rules.{rules}
-use native.Mathlib.Omega.{arith}
 use Rattle.check_rules.proofs.scan.all_edges.Given as goal
 
 abbrev pub invariant-loop-k : goal.invariant-loop-k

@@ -1,6 +1,5 @@
 use Rattle.laws_check.proofs.Tells.{denied, told}
 use native.Mathlib.Omega.{arith}
-use borrow.Author.Rules.{rules}
 use Rattle.check_rules.proofs.there.live.Goals as goal
 
 pub returns-then-n-x : goal.returns-then-n-x

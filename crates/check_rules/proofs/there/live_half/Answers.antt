@@ -1,6 +1,5 @@
 use Rattle.laws_check.proofs.Tells.{denied, told}
 use native.Mathlib.Omega.{arith}
-use borrow.Author.Rules.{rules}
 use Rattle.check_rules.proofs.there.live_half.Goals as goal
 
 pub returns-then-n-e : goal.returns-then-n-e

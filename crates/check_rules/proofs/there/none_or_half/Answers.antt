@@ -1,6 +1,5 @@
 use Rattle.laws_check.proofs.Tells.{tells-map, told}
 use mathlib.Core.Logic.{inl, inr, ⊎_elim}
-use borrow.Author.Rules.{rules}
 use Rattle.check_rules.proofs.there.none_or_half.Goals as goal
 
 pub returns-then-h-eq-NONE : goal.returns-then-h-eq-NONE

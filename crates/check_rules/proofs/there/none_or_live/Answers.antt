@@ -1,6 +1,5 @@
 use Rattle.laws_check.proofs.Tells.{tells-map, told}
 use mathlib.Core.Logic.{inl, inr, ⊎_elim}
-use borrow.Author.Rules.{rules}
 use Rattle.check_rules.proofs.there.none_or_live.Goals as goal
 
 pub returns-then-x-eq-NONE : goal.returns-then-x-eq-NONE

@@ -2,7 +2,6 @@ use Rattle.count_fields.specs.Fields.{counted}
 use Rattle.count_fields.specs.Count.{joined_of, rim_loops}
 use Rattle.scope.specs.Tally.{tally_of}
 use Rattle.scope.specs.Links.{loop}
-use borrow.Author.Rules.{rules}
 use Rattle.count_fields.proofs.count.fields.Goals as goal
 
 pub returns : goal.returns

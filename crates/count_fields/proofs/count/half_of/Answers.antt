@@ -1,6 +1,5 @@
 use Rattle.count_fields.specs.Fields.{shells_of}
 use borrow.Author.Tests.{lt-ltb, le-ltb}
-use borrow.Author.Rules.{rules}
 use Rattle.count_fields.proofs.count.half_of.Goals as goal
 
 pub returns-then-up-e : goal.returns-then-up-e

@@ -1,8 +1,6 @@
 use mathlib.Core.Path.{sym, ◌∙◌}
-use borrow.Author.Tests.{not-true, not-false}
 use Rattle.mesh.proofs.RoundLaws.{walk-has}
 use Rattle.count_fields.specs.Count.{lowest_rim}
-use borrow.Author.Rules.{rules}
 use Rattle.count_fields.proofs.loops.lowest_rim.Goals as goal
 
 pub rim-requires : goal.rim-requires

@@ -1,11 +1,7 @@
-use borrow.Author.Rules.{rules}
-use mathlib.Core.List.{[]}
-use mathlib.Core.Path.{◌≡◌, refl, sym, ◌∙◌}
-use Rattle.mesh.proofs.RoundLaws.{Left, left_out, left-first, left_back, left-on, walk-has, walk-on}
+use Rattle.mesh.proofs.RoundLaws.{Left}
 use Rattle.mesh.specs.Words.{next_at}
 use Rattle.mesh.specs.Rounds.{Walk, loop_at}
 use Rattle.count_fields.specs.Count.{below}
-use Rattle.count_fields.proofs.CountLaws.{below_none, below-here, below-past}
 use Rattle.count_fields.proofs.loops.meets_lower.Given as goal
 
 abbrev pub invariant-loop-left : goal.invariant-loop-left

@@ -1,8 +1,5 @@
 use native.Mathlib.Omega.{arith}
-use borrow.Author.Rules.{rules}
-use Prim.Native.Nat.{◌-◌, ◌*◌, ◌≤◌}
-use Rattle.count_fields.specs.Count.{lowest_rim}
-use Rattle.count_fields.proofs.CountLaws.{Numbered, numbered-none, numbered-on, numbered-all, walks}
+use Rattle.count_fields.proofs.CountLaws.{numbered-none, numbered-on, numbered-all, walks}
 use Rattle.count_fields.proofs.loops.rim_loops.Goals as goal
 
 pub loop-h-init : goal.loop-h-init

@@ -1,8 +1,6 @@
-use native.Mathlib.Omega.{arith}
-use borrow.Author.Rules.{rules}
 use Prim.Native.Nat.{◌-◌, ◌*◌, ◌≤◌}
 use Rattle.count_fields.specs.Count.{lowest_rim}
-use Rattle.count_fields.proofs.CountLaws.{Numbered, numbered-none, numbered-on, numbered-all, walks}
+use Rattle.count_fields.proofs.CountLaws.{Numbered}
 use Rattle.count_fields.proofs.loops.rim_loops.Given as goal
 
 abbrev pub invariant-loop-h : goal.invariant-loop-h

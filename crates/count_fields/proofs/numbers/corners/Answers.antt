@@ -1,9 +1,6 @@
 use native.Mathlib.Omega.{arith}
-use borrow.Author.Rules.{rules}
-use Prim.Native.Nat.{◌-◌, ◌≤◌}
-use Rattle.mesh.specs.Rounds.{loop_at}
-use lib.ListN.{length, get_or}
-use Rattle.count_fields.proofs.CountLaws.{Summed, summed-none, summed-on, summed-all, loop-small, walks}
+use lib.ListN.{get_or}
+use Rattle.count_fields.proofs.CountLaws.{summed-none, summed-on, summed-all, loop-small, walks}
 use Rattle.count_fields.proofs.numbers.corners.Goals as goal
 
 pub loop-f-init : goal.loop-f-init

@@ -1,9 +1,7 @@
-use native.Mathlib.Omega.{arith}
-use borrow.Author.Rules.{rules}
 use Prim.Native.Nat.{◌-◌, ◌≤◌}
 use Rattle.mesh.specs.Rounds.{loop_at}
 use lib.ListN.{length, get_or}
-use Rattle.count_fields.proofs.CountLaws.{Summed, summed-none, summed-on, summed-all, loop-small, walks}
+use Rattle.count_fields.proofs.CountLaws.{Summed}
 use Rattle.count_fields.proofs.numbers.corners.Given as goal
 
 abbrev pub invariant-loop-f : goal.invariant-loop-f

@@ -1,12 +1,9 @@
-use native.Mathlib.Omega.{arith}
-use borrow.Author.Rules.{rules}
-use mathlib.Core.Path.{refl}
 use Prim.Native.Nat.{◌-◌, ◌≤◌}
 use lib.ListN.{length, get_or}
 use mathlib.Core.Bool.{not}
 use lib.Dec.{eqb}
 use Rattle.scope.specs.Links.{NONE}
-use Rattle.count_fields.proofs.CountLaws.{Numbered, numbered-none, numbered-on, numbered-all}
+use Rattle.count_fields.proofs.CountLaws.{Numbered}
 use Rattle.count_fields.proofs.numbers.joined.Given as goal
 
 abbrev pub invariant-loop-v : goal.invariant-loop-v

@@ -1,8 +1,5 @@
 use native.Mathlib.Omega.{arith}
-use borrow.Author.Rules.{rules}
-use Prim.Native.Nat.{◌-◌, ◌≤◌}
-use Rattle.mesh.specs.Rounds.{rim_edge_at}
-use Rattle.count_fields.proofs.CountLaws.{Numbered, numbered-none, numbered-on, numbered-all}
+use Rattle.count_fields.proofs.CountLaws.{numbered-none, numbered-on, numbered-all}
 use Rattle.count_fields.proofs.numbers.rim_edges.Goals as goal
 
 pub loop-e-init : goal.loop-e-init

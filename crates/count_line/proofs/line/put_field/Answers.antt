@@ -1,5 +1,4 @@
 use Rattle.count_line.proofs.LineLaws.{field_put}
-use borrow.Author.Rules.{rules}
 use Rattle.count_line.proofs.line.put_field.Goals as goal
 
 pub returns : goal.returns

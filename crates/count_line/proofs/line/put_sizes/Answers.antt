@@ -1,6 +1,5 @@
 use native.Mathlib.Omega.{arith}
 use Rattle.count_line.proofs.LineLaws.{sizes-put}
-use borrow.Author.Rules.{rules}
 use Rattle.count_line.proofs.line.put_sizes.Goals as goal
 
 pub returns : goal.returns

@@ -7,7 +7,6 @@ use Rattle.scope.specs.Lists.{over}
 use Rattle.count_fields.specs.declared.count.Tally.{Tally}
 use Rattle.count_line.specs.Line.{line_of}
 use Rattle.count_line.proofs.SayLaws.{count-used}
-use borrow.Author.Rules.{rules}
 use Rattle.count_line.proofs.tell.count.Goals as goal
 
 pub slice_bounds-fields-end : goal.slice_bounds-fields-end

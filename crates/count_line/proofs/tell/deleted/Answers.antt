@@ -1,6 +1,5 @@
 use lib.ListN.{take}
 use Rattle.count_line.proofs.MarkLaws.{face-there, edge-there, vertex-there}
-use borrow.Author.Rules.{rules}
 use Rattle.count_line.proofs.tell.deleted.Goals as goal
 
 pub returns-then-is_set : goal.returns-then-is_set

@@ -1,5 +1,4 @@
 use Rattle.count_line.proofs.MarkLaws.{mark-there, no-mark-there}
-use borrow.Author.Rules.{rules}
 use Rattle.count_line.proofs.tell.is_set.Goals as goal
 
 pub returns-in-At : goal.returns-in-At

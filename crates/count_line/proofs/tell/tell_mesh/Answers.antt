@@ -1,6 +1,5 @@
 use Rattle.check_mesh.specs.Checked.{slices_at}
 use Rattle.count_line.proofs.SayLaws.{deleted-says, may-count, fields-say}
-use borrow.Author.Rules.{rules}
 use Rattle.count_line.proofs.tell.tell_mesh.Goals as goal
 
 pub returns-then-deleted : goal.returns-then-deleted

@@ -5,7 +5,6 @@ use lib.ListN.{length}
 use lib.Seq.{length-take-le}
 use Rattle.scope.specs.Lists.{over}
 use Rattle.count_line.proofs.RoomLaws.{in-the-room}
-use borrow.Author.Rules.{rules}
 use Rattle.count_line.proofs.whole.say.Goals as goal
 
 pub returns : goal.returns

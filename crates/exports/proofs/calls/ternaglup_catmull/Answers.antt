@@ -1,5 +1,4 @@
 use Rattle.exports.proofs.CallLaws.{came-apart}
-use borrow.Author.Rules.{rules}
 use Rattle.exports.proofs.calls.ternaglup_catmull.Goals as goal
 
 pub returns : goal.returns

@@ -1,6 +1,5 @@
 use mathlib.Core.Path.{ap, ◌∙◌}
 use Rattle.exports_flat.specs.Flat.{flat_reading}
-use borrow.Author.Rules.{rules}
 use Rattle.exports.proofs.calls.ternaglup_read.Goals as goal
 
 pub returns : goal.returns

@@ -1,6 +1,5 @@
 use mathlib.Core.Path.{refl}
 use Rattle.scope.specs.Answers.{said_checked}
-use borrow.Author.Rules.{rules}
 use Rattle.exports_flat.proofs.answers.flat_checked.Goals as goal
 
 pub returns-in-Sound : goal.returns-in-Sound

@@ -1,6 +1,5 @@
 use mathlib.Core.Path.{refl}
 use Rattle.exports_flat.specs.Flat.{flat_reading}
-use borrow.Author.Rules.{rules}
 use Rattle.exports_flat.proofs.answers.flat_reading.Goals as goal
 
 pub returns-in-Read : goal.returns-in-Read

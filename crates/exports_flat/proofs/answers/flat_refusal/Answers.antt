@@ -1,5 +1,4 @@
 use mathlib.Core.Path.{refl}
-use borrow.Author.Rules.{rules}
 use Rattle.exports_flat.proofs.answers.flat_refusal.Goals as goal
 
 pub returns : goal.returns

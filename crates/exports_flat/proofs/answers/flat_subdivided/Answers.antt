@@ -1,6 +1,5 @@
 use mathlib.Core.Path.{refl}
 use Rattle.exports_flat.specs.Flat.{flat_subdivided}
-use borrow.Author.Rules.{rules}
 use Rattle.exports_flat.proofs.answers.flat_subdivided.Goals as goal
 
 pub returns-in-Done : goal.returns-in-Done

@@ -1,6 +1,5 @@
 use mathlib.Core.Path.{refl}
 use Rattle.exports_flat.specs.Flat.{flat_writing}
-use borrow.Author.Rules.{rules}
 use Rattle.exports_flat.proofs.answers.flat_writing.Goals as goal
 
 pub returns-in-Written : goal.returns-in-Written

@@ -1,4 +1,3 @@
-use borrow.Author.Rules.{rules}
 use mathlib.Core.Path.{sym}
 use Rattle.file_read.proofs.FiniteLaws.{finite-bits}
 use Rattle.file_read.proofs.bytes.finite_at.Goals as goal

@@ -1,5 +1,4 @@
 use Rattle.file_read.proofs.FiniteLaws.{no-nan-bits}
-use borrow.Author.Rules.{rules}
 use Rattle.file_read.proofs.bytes.number.Goals as goal
 
 pub float_from_bits-result : goal.float_from_bits-result

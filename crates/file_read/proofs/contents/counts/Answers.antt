@@ -1,4 +1,3 @@
-use borrow.Author.Rules.{rules}
 use Rattle.file_read.specs.Format.{file_counts}
 use Rattle.file_read.proofs.contents.counts.Goals as goal
 

@@ -1,11 +1,5 @@
-use Prim.Native.Nat.{◌+◌, ◌-◌, ◌*◌}
-use lib.Ieee.Scale.{finite}
-use lib.Ieee.{binary64, of_bits}
 use mathlib.Core.Path.{sym, ◌∙◌}
-use Rattle.file_read.specs.Format.{bits_at}
-use borrow.Author.Tests.{not-true, not-false}
-use Rattle.file_read.proofs.FillLaws.{Passed, passed_none, passed_on, passed-all, passed-not}
-use borrow.Author.Rules.{rules}
+use Rattle.file_read.proofs.FillLaws.{passed_none, passed_on, passed-all, passed-not}
 use Rattle.file_read.proofs.contents.finite_numbers.Goals as goal
 
 pub loop-i-init : goal.loop-i-init

@@ -1,11 +1,8 @@
 use Prim.Native.Nat.{◌+◌, ◌-◌, ◌*◌}
 use lib.Ieee.Scale.{finite}
 use lib.Ieee.{binary64, of_bits}
-use mathlib.Core.Path.{sym, ◌∙◌}
 use Rattle.file_read.specs.Format.{bits_at}
-use borrow.Author.Tests.{not-true, not-false}
-use Rattle.file_read.proofs.FillLaws.{Passed, passed_none, passed_on, passed-all, passed-not}
-use borrow.Author.Rules.{rules}
+use Rattle.file_read.proofs.FillLaws.{Passed}
 use Rattle.file_read.proofs.contents.finite_numbers.Given as goal
 
 abbrev pub invariant-loop-i : goal.invariant-loop-i

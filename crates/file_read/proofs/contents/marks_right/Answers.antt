@@ -1,10 +1,6 @@
-use Prim.Native.Nat.{◌+◌, ◌-◌}
-use lib.ListN.{get_or}
-use lib.Dec.{leb}
 use Rattle.file_read.specs.Format.{marks_right}
 use borrow.Author.Tests.{le-leb, lt-leb}
-use Rattle.file_read.proofs.FillLaws.{Passed, passed_none, passed_on, passed-all, passed-not}
-use borrow.Author.Rules.{rules}
+use Rattle.file_read.proofs.FillLaws.{passed_none, passed_on, passed-all, passed-not}
 use Rattle.file_read.proofs.contents.marks_right.Goals as goal
 
 pub loop-i-init : goal.loop-i-init

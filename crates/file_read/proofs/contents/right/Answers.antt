@@ -1,8 +1,6 @@
 use native.Mathlib.Omega.{arith}
 use mathlib.Core.Path.{sym, ◌∙◌}
-use borrow.Author.Tests.{not-true, not-false}
 use Rattle.file_read.proofs.ContentsLaws.{short-file, other_format, other-rows, by-marks, rows_end}
-use borrow.Author.Rules.{rules}
 use Rattle.file_read.proofs.contents.right.Goals as goal
 
 pub returns-then-file-lt64 : goal.returns-then-file-lt64

@@ -1,6 +1,5 @@
 use borrow.Author.Tests.{eq-eqb, ne_eqb}
 use Rattle.file_read.specs.Format.{row_right}
-use borrow.Author.Rules.{rules}
 use Rattle.file_read.proofs.contents.row_right.Goals as goal
 
 pub returns-then-kind-k : goal.returns-then-kind-k

@@ -1,7 +1,5 @@
 use mathlib.Core.Path.{sym, ◌∙◌}
-use borrow.Author.Tests.{not-true, not-false}
 use Rattle.file_read.specs.Format.{rows_right}
-use borrow.Author.Rules.{rules}
 use Rattle.file_read.proofs.contents.rows_right.Goals as goal
 
 pub returns-then-not-row_right : goal.returns-then-not-row_right

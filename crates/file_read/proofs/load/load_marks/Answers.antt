@@ -1,11 +1,7 @@
-use mathlib.Core.Path.{◌≡◌, refl}
+use mathlib.Core.Path.{refl}
 use lib.ListN.{length-set}
 use native.Mathlib.Omega.{arith}
-use borrow.Author.Rules.{rules}
-use Prim.Native.Nat.{◌-◌}
-use lib.ListN.{length}
-use Rattle.file_read.specs.Format.{bytes}
-use Rattle.file_read.proofs.FillLaws.{Laid, laid_none, laid_on, laid-all}
+use Rattle.file_read.proofs.FillLaws.{laid_none, laid_on, laid-all}
 use Rattle.file_read.proofs.load.load_marks.Goals as goal
 
 pub loop-i-init : goal.loop-i-init

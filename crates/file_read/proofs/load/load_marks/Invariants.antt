@@ -1,11 +1,8 @@
-use mathlib.Core.Path.{◌≡◌, refl}
-use lib.ListN.{length-set}
-use native.Mathlib.Omega.{arith}
-use borrow.Author.Rules.{rules}
+use mathlib.Core.Path.{◌≡◌}
 use Prim.Native.Nat.{◌-◌}
 use lib.ListN.{length}
 use Rattle.file_read.specs.Format.{bytes}
-use Rattle.file_read.proofs.FillLaws.{Laid, laid_none, laid_on, laid-all}
+use Rattle.file_read.proofs.FillLaws.{Laid}
 use Rattle.file_read.proofs.load.load_marks.Given as goal
 
 abbrev pub invariant-loop-i : goal.invariant-loop-i

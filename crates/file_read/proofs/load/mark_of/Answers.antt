@@ -2,7 +2,6 @@ use Prim.Native.Nat.{◌+◌}
 use lib.ListN.{get_or}
 use mathlib.Core.Path.{sym}
 use Rattle.file_read.proofs.FillLaws.{at_place, past-run}
-use borrow.Author.Rules.{rules}
 use Rattle.file_read.proofs.load.mark_of.Goals as goal
 
 pub returns-then-n-i : goal.returns-then-n-i

@@ -2,7 +2,6 @@ use Rattle.file_read.specs.Format.{word_at}
 use Prim.Native.Nat.{◌+◌, ◌*◌}
 use mathlib.Core.Path.{sym, ◌∙◌}
 use Rattle.file_read.proofs.FillLaws.{at_place, past-run}
-use borrow.Author.Rules.{rules}
 use Rattle.file_read.proofs.load.word_of.Goals as goal
 
 pub returns-then-n-i : goal.returns-then-n-i

@@ -1,5 +1,4 @@
 use Rattle.file_read.proofs.ReadLaws.{fill-all}
-use borrow.Author.Rules.{rules}
 use Rattle.file_read.proofs.read.fill.Goals as goal
 
 pub returns : goal.returns

@@ -1,6 +1,4 @@
-use native.Mathlib.Omega.{arith}
 use Rattle.file_read.proofs.ReadLaws.{load-sound, load-unsound}
-use borrow.Author.Rules.{rules}
 use Rattle.file_read.proofs.read.load.Goals as goal
 
 pub fill-requires : goal.fill-requires

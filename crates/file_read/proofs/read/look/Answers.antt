@@ -1,9 +1,7 @@
 use native.Mathlib.Omega.{arith}
-use borrow.Author.Tests.{not-true, not-false}
 use mathlib.Core.Path.{sym, ◌∙◌}
 use Rattle.file_read.proofs.ContentsLaws.{right-long}
 use Rattle.file_read.proofs.ReadLaws.{look-contents, look-short, look-few, look-infinite, look-fine, right-room}
-use borrow.Author.Rules.{rules}
 use Rattle.file_read.proofs.read.look.Goals as goal
 
 pub returns-then-not-right : goal.returns-then-not-right

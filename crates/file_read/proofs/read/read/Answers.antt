@@ -1,6 +1,5 @@
 use mathlib.Core.Path.{sym, ◌∙◌}
 use Rattle.file_read.proofs.ReadLaws.{reading-read, reading-refused, load-ready, read-loaded, read-refused}
-use borrow.Author.Rules.{rules}
 use Rattle.file_read.proofs.read.read.Goals as goal
 
 pub load-requires : goal.load-requires

@@ -1,6 +1,5 @@
 use native.Mathlib.Omega.{arith}
 use Rattle.file_read.proofs.ReadLaws.{wipe-all, no-numbers}
-use borrow.Author.Rules.{rules}
 use Rattle.file_read.proofs.read.wipe.Goals as goal
 
 pub load_numbers-requires : goal.load_numbers-requires

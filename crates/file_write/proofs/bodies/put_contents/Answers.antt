@@ -1,5 +1,4 @@
 use Rattle.file_read.specs.Format.{contents_of}
-use borrow.Author.Rules.{rules}
 use Rattle.file_write.proofs.bodies.put_contents.Goals as goal
 
 pub returns : goal.returns

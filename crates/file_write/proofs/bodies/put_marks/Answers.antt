@@ -1,8 +1,5 @@
 use native.Mathlib.Omega.{arith}
-use borrow.Author.Rules.{rules}
-use Prim.Native.Nat.{◌-◌}
-use Rattle.file_write.specs.Puts.{mark_bytes}
-use Rattle.text.proofs.PutLaws.{Puts, puts_none, puts-on, one_each}
+use Rattle.text.proofs.PutLaws.{puts_none, puts-on, one_each}
 use Rattle.file_write.proofs.PutLaws.{wide-mark, marks-done}
 use Rattle.file_write.proofs.bodies.put_marks.Goals as goal
 

@@ -1,9 +1,6 @@
-use native.Mathlib.Omega.{arith}
-use borrow.Author.Rules.{rules}
 use Prim.Native.Nat.{◌-◌}
 use Rattle.file_write.specs.Puts.{mark_bytes}
-use Rattle.text.proofs.PutLaws.{Puts, puts_none, puts-on, one_each}
-use Rattle.file_write.proofs.PutLaws.{wide-mark, marks-done}
+use Rattle.text.proofs.PutLaws.{Puts}
 use Rattle.file_write.proofs.bodies.put_marks.Given as goal
 
 abbrev pub invariant-loop-i : goal.invariant-loop-i

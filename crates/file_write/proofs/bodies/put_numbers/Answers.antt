@@ -1,10 +1,7 @@
 use mathlib.Core.Path.{refl}
 use lib.Ieee.{nan}
 use native.Mathlib.Omega.{arith}
-use borrow.Author.Rules.{rules}
-use Prim.Native.Nat.{◌-◌}
-use Rattle.file_write.specs.Puts.{number_bytes}
-use Rattle.text.proofs.PutLaws.{Puts, puts_none, puts-on}
+use Rattle.text.proofs.PutLaws.{puts_none, puts-on}
 use Rattle.file_write.proofs.PutLaws.{wide-number, numbers-done}
 use Rattle.file_write.proofs.bodies.put_numbers.Goals as goal
 

@@ -1,11 +1,6 @@
-use mathlib.Core.Path.{refl}
-use lib.Ieee.{nan}
-use native.Mathlib.Omega.{arith}
-use borrow.Author.Rules.{rules}
 use Prim.Native.Nat.{◌-◌}
 use Rattle.file_write.specs.Puts.{number_bytes}
-use Rattle.text.proofs.PutLaws.{Puts, puts_none, puts-on}
-use Rattle.file_write.proofs.PutLaws.{wide-number, numbers-done}
+use Rattle.text.proofs.PutLaws.{Puts}
 use Rattle.file_write.proofs.bodies.put_numbers.Given as goal
 
 abbrev pub invariant-loop-i : goal.invariant-loop-i

@@ -1,9 +1,6 @@
 use mathlib.Core.Path.{refl}
 use native.Mathlib.Omega.{arith}
-use borrow.Author.Rules.{rules}
-use Prim.Native.Nat.{◌-◌}
-use Rattle.file_read.specs.Format.{word_bytes}
-use Rattle.text.proofs.PutLaws.{Puts, puts_none, puts-on}
+use Rattle.text.proofs.PutLaws.{puts_none, puts-on}
 use Rattle.file_write.proofs.PutLaws.{wide_word, words-done}
 use Rattle.file_write.proofs.bodies.put_words.Goals as goal
 

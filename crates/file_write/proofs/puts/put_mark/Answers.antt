@@ -1,7 +1,6 @@
 use borrow.Author.Tests.{eq-eqb, ne_eqb}
 use Rattle.file_write.specs.Puts.{mark_bytes}
 use Rattle.text.proofs.PutLaws.{store-one}
-use borrow.Author.Rules.{rules}
 use Rattle.file_write.proofs.puts.put_mark.Goals as goal
 
 pub returns-then-k-eq0 : goal.returns-then-k-eq0

@@ -1,5 +1,4 @@
 use Rattle.file_write.proofs.PutLaws.{number-on}
-use borrow.Author.Rules.{rules}
 use Rattle.file_write.proofs.puts.put_number.Goals as goal
 
 pub returns : goal.returns

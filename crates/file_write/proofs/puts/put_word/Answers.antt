@@ -2,7 +2,6 @@ use native.Mathlib.Omega.{arith}
 use lib.ListN.{length-set}
 use Rattle.file_read.specs.Format.{word_bytes}
 use Rattle.file_write.proofs.PutLaws.{store-four}
-use borrow.Author.Rules.{rules}
 use Rattle.file_write.proofs.puts.put_word.Goals as goal
 
 pub bounds-file-at-2 : goal.bounds-file-at-2

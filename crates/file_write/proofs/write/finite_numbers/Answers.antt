@@ -1,12 +1,6 @@
 use Rattle.file_write.proofs.WriteLaws.{finite-front}
-use borrow.Author.Rules.{rules}
-use Prim.Native.Nat.{◌-◌}
-use lib.ListN.{get_or}
-use lib.Ieee.{nan}
-use lib.Ieee.Scale.{finite}
 use mathlib.Core.Path.{sym, ◌∙◌}
-use borrow.Author.Tests.{not-true, not-false}
-use Rattle.file_read.proofs.FillLaws.{Passed, passed_none, passed_on, passed-all, passed-not}
+use Rattle.file_read.proofs.FillLaws.{passed_none, passed_on, passed-all, passed-not}
 use Rattle.file_write.proofs.write.finite_numbers.Goals as goal
 
 pub loop-i-init : goal.loop-i-init

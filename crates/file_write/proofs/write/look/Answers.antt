@@ -1,10 +1,8 @@
 use native.Mathlib.Omega.{arith}
 use mathlib.Core.Path.{sym, ap, ◌∙◌}
-use borrow.Author.Tests.{not-true, not-false}
 use Rattle.file_write.specs.declared.write.Writing.{Writing}
 use Rattle.file_write.specs.declared.write.Writing.TheVariants.{Written}
 use Rattle.file_write.proofs.WriteLaws.{held, short, few-points, some-infinite, too_long, all-well}
-use borrow.Author.Rules.{rules}
 use Rattle.file_write.proofs.write.look.Goals as goal
 
 pub returns-then-not-fits : goal.returns-then-not-fits

@@ -1,4 +1,3 @@
-use borrow.Author.Rules.{rules}
 use Rattle.file_write.proofs.write.put_all_marks.Goals as goal
 
 pub returns : goal.returns

@@ -1,6 +1,5 @@
 use native.Mathlib.Omega.{arith}
 use Rattle.file_write.proofs.WriteLaws.{whole-file}
-use borrow.Author.Rules.{rules}
 use Rattle.file_write.proofs.write.put_file.Goals as goal
 
 pub put_numbers-requires : goal.put_numbers-requires

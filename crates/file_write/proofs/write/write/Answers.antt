@@ -1,6 +1,5 @@
 use mathlib.Core.Path.{sym, ◌∙◌}
 use Rattle.file_write.proofs.WriteLaws.{room_for, is-written, is-refused, leaves-file, leaves-old}
-use borrow.Author.Rules.{rules}
 use Rattle.file_write.proofs.write.write.Goals as goal
 
 pub put_file-requires : goal.put_file-requires

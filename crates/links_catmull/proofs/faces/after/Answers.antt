@@ -2,7 +2,6 @@ use Prim.Native.Nat.{suc, ◌+◌}
 use mathlib.Core.Path.{◌≡◌, sym, ◌∙◌}
 use native.Mathlib.Omega.{arith}
 use Rattle.laws_mesh.proofs.Ring.{after_last, after-other}
-use borrow.Author.Rules.{rules}
 use Rattle.links_catmull.proofs.faces.after.Goals as goal
 
 pub returns-then-i-n : goal.returns-then-i-n

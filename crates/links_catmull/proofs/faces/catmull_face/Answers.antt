@@ -1,6 +1,5 @@
 use native.Mathlib.Omega.{arith}
 use Rattle.links_catmull.proofs.StepLaws.{face-walk, face-parts, face-fan, face-outs, face-edges, face-faces}
-use borrow.Author.Rules.{rules}
 use Rattle.links_catmull.proofs.faces.catmull_face.Goals as goal
 
 pub loop_length-requires : goal.loop_length-requires

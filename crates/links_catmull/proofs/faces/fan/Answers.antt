@@ -1,17 +1,8 @@
-use Prim.Native.Nat.{◌+◌, ◌-◌, ◌*◌, ◌≤◌}
-use mathlib.Core.Path.{◌≡◌, refl, ap, ◌∙◌}
-use mathlib.Core.List.{[]}
-use lib.ListN.{length}
+use mathlib.Core.Path.{refl, ap, ◌∙◌}
 use native.Mathlib.Omega.{arith}
-use borrow.Author.Rules.{rules}
 use Rattle.scope.specs.Links.{Links}
-use Rattle.scope.specs.Edits.{petals}
-use Rattle.scope.specs.Passes.{pairs}
-use Rattle.laws_mesh.proofs.Loops.{steps}
 use Rattle.laws_mesh.proofs.Ring.{after-lt}
-use Rattle.mesh.specs.Words.{next_at}
-use Rattle.links_edits.specs.Held.{held}
-use Rattle.links_catmull.proofs.StepLaws.{Fanning, fan-start, fan-done, part-first, part-last, part-ranges, part-next}
+use Rattle.links_catmull.proofs.StepLaws.{fan-start, fan-done, part-first, part-last, part-ranges, part-next}
 use Rattle.links_catmull.proofs.faces.fan.Goals as goal
 
 pub loop-i-init : goal.loop-i-init

@@ -1,12 +1,8 @@
-use Prim.Native.Nat.{◌+◌, ◌-◌, ◌≤◌}
-use mathlib.Core.Path.{◌≡◌, refl, ap, ◌∙◌}
-use lib.ListN.{length}
+use mathlib.Core.Path.{refl, ap, ◌∙◌}
 use native.Mathlib.Omega.{arith}
-use borrow.Author.Rules.{rules}
 use Rattle.scope.specs.Links.{Links}
 use Rattle.scope.specs.Tally.{counts_of}
-use Rattle.links_edits.specs.Held.{held}
-use Rattle.links_catmull.proofs.StepLaws.{Facing, facing-start, facing-ok, facing-on, facing-done}
+use Rattle.links_catmull.proofs.StepLaws.{facing-start, facing-ok, facing-on, facing-done}
 use Rattle.links_catmull.proofs.faces.split_faces.Goals as goal
 
 pub loop-f-init : goal.loop-f-init

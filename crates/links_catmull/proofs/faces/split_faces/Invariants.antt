@@ -1,12 +1,8 @@
 use Prim.Native.Nat.{◌+◌, ◌-◌, ◌≤◌}
-use mathlib.Core.Path.{◌≡◌, refl, ap, ◌∙◌}
+use mathlib.Core.Path.{◌≡◌}
 use lib.ListN.{length}
-use native.Mathlib.Omega.{arith}
-use borrow.Author.Rules.{rules}
-use Rattle.scope.specs.Links.{Links}
-use Rattle.scope.specs.Tally.{counts_of}
 use Rattle.links_edits.specs.Held.{held}
-use Rattle.links_catmull.proofs.StepLaws.{Facing, facing-start, facing-ok, facing-on, facing-done}
+use Rattle.links_catmull.proofs.StepLaws.{Facing}
 use Rattle.links_catmull.proofs.faces.split_faces.Given as goal
 
 abbrev pub invariant-loop-f : goal.invariant-loop-f

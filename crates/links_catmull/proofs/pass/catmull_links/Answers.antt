@@ -2,7 +2,6 @@ use mathlib.Core.Path.{ap, ◌∙◌}
 use Rattle.scope.specs.Links.{Links}
 use Rattle.scope.specs.Tally.{counts_of}
 use Rattle.links_catmull.proofs.PassLaws.{ready-splits, ready-faces, ready-done}
-use borrow.Author.Rules.{rules}
 use Rattle.links_catmull.proofs.pass.catmull_links.Goals as goal
 
 pub split_edges-requires : goal.split_edges-requires

@@ -1,6 +1,5 @@
 use mathlib.Core.Path.{sym, ◌∙◌}
 use Rattle.mesh.proofs.RoundLaws.{has_here, has-past}
-use borrow.Author.Rules.{rules}
 use Rattle.links_edits.proofs.cut.among_four.Goals as goal
 
 pub returns-then-s-a : goal.returns-then-s-a

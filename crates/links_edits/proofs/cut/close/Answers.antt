@@ -1,5 +1,4 @@
 use Rattle.links_edits.specs.Cut.{closed}
-use borrow.Author.Rules.{rules}
 use Rattle.links_edits.proofs.cut.close.Goals as goal
 
 pub returns : goal.returns

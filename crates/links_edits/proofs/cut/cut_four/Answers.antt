@@ -1,6 +1,5 @@
 use native.Mathlib.Omega.{arith}
 use Rattle.links_edits.proofs.CutLaws.{gap-in, four-edges, cut-in-faces}
-use borrow.Author.Rules.{rules}
 use Rattle.links_edits.proofs.cut.cut_four.Goals as goal
 
 pub look_across-x-requires : goal.look_across-x-requires

@@ -1,5 +1,4 @@
 use Rattle.links_edits.specs.Cut.{cut_three}
-use borrow.Author.Rules.{rules}
 use Rattle.links_edits.proofs.cut.cut_off.Goals as goal
 
 pub returns : goal.returns

@@ -1,5 +1,4 @@
 use Rattle.links_edits.proofs.CutLaws.{gap-in, three-edges, cut-in-faces}
-use borrow.Author.Rules.{rules}
 use Rattle.links_edits.proofs.cut.cut_three.Goals as goal
 
 pub look_across-x-requires : goal.look_across-x-requires

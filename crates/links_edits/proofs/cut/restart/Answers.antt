@@ -1,4 +1,3 @@
-use borrow.Author.Rules.{rules}
 use Rattle.links_edits.proofs.cut.restart.Goals as goal
 
 pub returns : goal.returns

@@ -1,5 +1,4 @@
 use Rattle.links_edits.specs.Petal.{rimmed}
-use borrow.Author.Rules.{rules}
 use Rattle.links_edits.proofs.petal.between.Goals as goal
 
 pub returns : goal.returns

@@ -1,4 +1,3 @@
-use borrow.Author.Rules.{rules}
 use Rattle.links_edits.proofs.PetalLaws.{petal-in-edges, petal-in-faces}
 use Rattle.links_edits.proofs.petal.petal.Goals as goal
 

@@ -1,5 +1,4 @@
 use Rattle.links_edits.specs.Split.{inserted}
-use borrow.Author.Rules.{rules}
 use Rattle.links_edits.proofs.split.insert.Goals as goal
 
 pub returns : goal.returns

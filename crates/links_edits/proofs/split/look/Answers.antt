@@ -1,4 +1,3 @@
-use borrow.Author.Rules.{rules}
 use Rattle.links_edits.proofs.split.look.Goals as goal
 
 pub returns : goal.returns

@@ -1,5 +1,4 @@
 use Rattle.links_edits.specs.Split.{renamed}
-use borrow.Author.Rules.{rules}
 use Rattle.links_edits.proofs.split.rename.Goals as goal
 
 pub returns : goal.returns

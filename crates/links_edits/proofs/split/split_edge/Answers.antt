@@ -1,5 +1,4 @@
 use native.Mathlib.Omega.{arith}
-use borrow.Author.Rules.{rules}
 use Rattle.links_edits.proofs.SplitLaws.{insert-ok, split-in-edges, split-in-outs}
 use Rattle.links_edits.proofs.split.split_edge.Goals as goal
 

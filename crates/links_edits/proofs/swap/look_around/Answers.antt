@@ -1,4 +1,3 @@
-use borrow.Author.Rules.{rules}
 use Rattle.links_edits.proofs.swap.look_around.Goals as goal
 
 pub load_halfedge-hn-requires : goal.load_halfedge-hn-requires

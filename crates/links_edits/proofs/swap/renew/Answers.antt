@@ -1,5 +1,4 @@
 use Rattle.links_edits.specs.Swap.{renewed}
-use borrow.Author.Rules.{rules}
 use Rattle.links_edits.proofs.swap.renew.Goals as goal
 
 pub returns : goal.returns

@@ -1,5 +1,4 @@
 use Rattle.links_edits.proofs.SwapLaws.{swap-in-outs, swap-in-edges, swap-in-faces}
-use borrow.Author.Rules.{rules}
 use Rattle.links_edits.proofs.swap.swap_ccw.Goals as goal
 
 pub renew-requires : goal.renew-requires

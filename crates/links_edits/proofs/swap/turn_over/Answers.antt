@@ -1,5 +1,4 @@
 use Rattle.links_edits.specs.Swap.{turned_over}
-use borrow.Author.Rules.{rules}
 use Rattle.links_edits.proofs.swap.turn_over.Goals as goal
 
 pub returns : goal.returns

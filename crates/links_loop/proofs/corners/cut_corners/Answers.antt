@@ -1,5 +1,4 @@
 use Rattle.links_loop.specs.Corners.{cornered}
-use borrow.Author.Rules.{rules}
 use Rattle.links_loop.proofs.corners.cut_corners.Goals as goal
 
 pub returns : goal.returns

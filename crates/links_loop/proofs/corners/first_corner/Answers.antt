@@ -1,6 +1,5 @@
 use Rattle.links_loop.specs.Corners.{first, painted}
 use Rattle.links_loop.proofs.CornerLaws.{gap-ok₁}
-use borrow.Author.Rules.{rules}
 use Rattle.links_loop.proofs.corners.first_corner.Goals as goal
 
 pub divide-requires : goal.divide-requires

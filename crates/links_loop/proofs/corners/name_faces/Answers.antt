@@ -1,5 +1,4 @@
 use Rattle.links_loop.specs.Corners.{named}
-use borrow.Author.Rules.{rules}
 use Rattle.links_loop.proofs.corners.name_faces.Goals as goal
 
 pub returns : goal.returns

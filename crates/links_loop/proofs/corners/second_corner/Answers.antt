@@ -1,6 +1,5 @@
 use Rattle.links_loop.specs.Corners.{second, painted}
 use Rattle.links_loop.proofs.CornerLaws.{gap-ok₂}
-use borrow.Author.Rules.{rules}
 use Rattle.links_loop.proofs.corners.second_corner.Goals as goal
 
 pub divide-requires : goal.divide-requires

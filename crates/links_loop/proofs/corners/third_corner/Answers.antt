@@ -1,6 +1,5 @@
 use Rattle.links_loop.proofs.CornerLaws.{gap-ok₃}
 use Rattle.links_loop.specs.Corners.{third}
-use borrow.Author.Rules.{rules}
 use Rattle.links_loop.proofs.corners.third_corner.Goals as goal
 
 pub cut_off-requires : goal.cut_off-requires

@@ -1,6 +1,5 @@
 use native.Mathlib.Omega.{arith}
 use Rattle.links_loop.proofs.FaceLaws.{face_in, start_has, steps-ok, six-ok, face-edges, face-faces, face-counts}
-use borrow.Author.Rules.{rules}
 use Rattle.links_loop.proofs.faces.loop_face.Goals as goal
 
 pub first_old-requires : goal.first_old-requires

@@ -1,11 +1,6 @@
-use Prim.Native.Nat.{◌-◌, ◌≤◌}
-use mathlib.Core.Path.{◌≡◌, refl, ◌∙◌}
-use lib.ListN.{length}
+use mathlib.Core.Path.{refl, ◌∙◌}
 use native.Mathlib.Omega.{arith}
-use borrow.Author.Rules.{rules}
-use Rattle.scope.specs.Passes.{loop_face}
-use Rattle.links_edits.specs.Held.{given}
-use Rattle.links_edits.proofs.FoldLaws.{Facing, facing-done}
+use Rattle.links_edits.proofs.FoldLaws.{facing-done}
 use Rattle.links_loop.proofs.PassLaws.{faces-start, faces-few, faces-ok, faces-on}
 use Rattle.links_loop.proofs.faces.loop_faces.Goals as goal
 

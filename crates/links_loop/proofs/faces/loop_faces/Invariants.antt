@@ -1,12 +1,9 @@
 use Prim.Native.Nat.{◌-◌, ◌≤◌}
-use mathlib.Core.Path.{◌≡◌, refl, ◌∙◌}
+use mathlib.Core.Path.{◌≡◌}
 use lib.ListN.{length}
-use native.Mathlib.Omega.{arith}
-use borrow.Author.Rules.{rules}
 use Rattle.scope.specs.Passes.{loop_face}
 use Rattle.links_edits.specs.Held.{given}
-use Rattle.links_edits.proofs.FoldLaws.{Facing, facing-done}
-use Rattle.links_loop.proofs.PassLaws.{faces-start, faces-few, faces-ok, faces-on}
+use Rattle.links_edits.proofs.FoldLaws.{Facing}
 use Rattle.links_loop.proofs.faces.loop_faces.Given as goal
 
 abbrev pub invariant-loop-f : goal.invariant-loop-f

@@ -1,5 +1,4 @@
 use Rattle.links_loop.proofs.PassLaws.{ready-splits, ready-faces, pass-outs, pass-edges, pass-faces, pass-counts}
-use borrow.Author.Rules.{rules}
 use Rattle.links_loop.proofs.pass.loop_links.Goals as goal
 
 pub split_edges-requires : goal.split_edges-requires

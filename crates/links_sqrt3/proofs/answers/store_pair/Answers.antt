@@ -1,4 +1,3 @@
-use borrow.Author.Rules.{rules}
 use Rattle.links_sqrt3.proofs.answers.store_pair.Goals as goal
 
 pub returns : goal.returns

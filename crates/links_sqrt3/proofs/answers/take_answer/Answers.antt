@@ -1,5 +1,4 @@
 use Rattle.links_sqrt3.proofs.AnswerLaws.{taken_at, taken-no}
-use borrow.Author.Rules.{rules}
 use Rattle.links_sqrt3.proofs.answers.take_answer.Goals as goal
 
 pub returns-in-At : goal.returns-in-At

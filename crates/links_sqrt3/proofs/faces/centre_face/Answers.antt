@@ -1,6 +1,5 @@
 use native.Mathlib.Omega.{arith}
 use Rattle.links_sqrt3.proofs.StepLaws.{centre-three, centre-outs, centre-edges, centre-faces}
-use borrow.Author.Rules.{rules}
 use Rattle.links_sqrt3.proofs.faces.centre_face.Goals as goal
 
 pub next-y-requires : goal.next-y-requires

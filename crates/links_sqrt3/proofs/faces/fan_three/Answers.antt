@@ -2,7 +2,6 @@ use Prim.Native.Nat.{◌+◌}
 use mathlib.Core.Path.{◌∙◌}
 use native.Mathlib.Omega.{arith}
 use Rattle.links_sqrt3.proofs.StepLaws.{single-ok, fan-done}
-use borrow.Author.Rules.{rules}
 use Rattle.links_sqrt3.proofs.faces.fan_three.Goals as goal
 
 pub petal-requires : goal.petal-requires

@@ -1,13 +1,8 @@
-use Prim.Native.Nat.{◌+◌, ◌-◌, ◌*◌, ◌≤◌}
-use mathlib.Core.Path.{◌≡◌, refl, ap, ◌∙◌}
-use lib.ListN.{length}
+use mathlib.Core.Path.{refl, ap, ◌∙◌}
 use native.Mathlib.Omega.{arith}
-use borrow.Author.Rules.{rules}
 use Rattle.scope.specs.Links.{Links}
 use Rattle.scope.specs.Tally.{counts_of}
-use Rattle.links_edits.specs.Held.{held}
-use Rattle.links_sqrt3.specs.Answers.{moved}
-use Rattle.links_sqrt3.proofs.StepLaws.{gained-le, Facing, facing-start, facing-ok, facing-few, facing-up, facing-on, facing-done}
+use Rattle.links_sqrt3.proofs.StepLaws.{gained-le, facing-start, facing-ok, facing-few, facing-up, facing-on, facing-done}
 use Rattle.links_sqrt3.proofs.AnswerLaws.{moved_same, moved_up, moved_to}
 use Rattle.links_sqrt3.proofs.faces.open_faces.Goals as goal
 

@@ -1,7 +1,6 @@
 use mathlib.Core.Path.{ap}
 use Rattle.scope.specs.Links.{Links}
 use Rattle.links_sqrt3.proofs.StepLaws.{rim-split, rim-cut, rim-cut_2, rim-done}
-use borrow.Author.Rules.{rules}
 use Rattle.links_sqrt3.proofs.faces.rim_face.Goals as goal
 
 pub split_edge-requires-2 : goal.split_edge-requires-2

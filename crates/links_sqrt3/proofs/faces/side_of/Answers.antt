@@ -1,5 +1,4 @@
 use Rattle.links_sqrt3.proofs.StepLaws.{side-off, side-there}
-use borrow.Author.Rules.{rules}
 use Rattle.links_sqrt3.proofs.faces.side_of.Goals as goal
 
 pub returns-then-not-flag : goal.returns-then-not-flag

@@ -4,7 +4,6 @@ use Rattle.scope.specs.Links.{Links}
 use Rattle.mesh_walk.specs.declared.rims.Found.TheVariants.{At}
 use Rattle.links_sqrt3.proofs.StepLaws.{rim-there, rim-opens, rim-gained, centre-there, centre-opens, centre-gained}
 use Rattle.links_sqrt3.proofs.AnswerLaws.{pair-side, pair-points, centre-side, centre-point, moved-one, moved-two}
-use borrow.Author.Rules.{rules}
 use Rattle.links_sqrt3.proofs.faces.sqrt_face.Goals as goal
 
 pub store_point-requires : goal.store_point-requires

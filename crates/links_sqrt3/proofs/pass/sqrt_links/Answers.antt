@@ -2,7 +2,6 @@ use mathlib.Core.Path.{ap, ◌∙◌}
 use Rattle.scope.specs.Links.{Links}
 use Rattle.links_sqrt3.proofs.AnswerLaws.{moved_to}
 use Rattle.links_sqrt3.proofs.PassLaws.{ready-faces, ready-points, ready-swaps, ready-done, ready-counts, ready_vertices}
-use borrow.Author.Rules.{rules}
 use Rattle.links_sqrt3.proofs.pass.sqrt_links.Goals as goal
 
 pub open_faces-d-requires : goal.open_faces-d-requires

@@ -1,11 +1,7 @@
-use Prim.Native.Nat.{◌-◌, ◌≤◌}
-use mathlib.Core.Path.{◌≡◌, refl, ap, ◌∙◌}
-use lib.ListN.{length}
+use mathlib.Core.Path.{refl, ap, ◌∙◌}
 use native.Mathlib.Omega.{arith}
-use borrow.Author.Rules.{rules}
 use Rattle.scope.specs.Links.{Links}
-use Rattle.links_edits.specs.Held.{held}
-use Rattle.links_sqrt3.proofs.StepLaws.{Swapping, swapping_start, swapping-ok, swapping-on, swapping-done}
+use Rattle.links_sqrt3.proofs.StepLaws.{swapping_start, swapping-ok, swapping-on, swapping-done}
 use Rattle.links_sqrt3.proofs.swaps.swap_edges.Goals as goal
 
 pub loop-e-init : goal.loop-e-init

@@ -1,11 +1,8 @@
 use Prim.Native.Nat.{◌-◌, ◌≤◌}
-use mathlib.Core.Path.{◌≡◌, refl, ap, ◌∙◌}
+use mathlib.Core.Path.{◌≡◌}
 use lib.ListN.{length}
-use native.Mathlib.Omega.{arith}
-use borrow.Author.Rules.{rules}
-use Rattle.scope.specs.Links.{Links}
 use Rattle.links_edits.specs.Held.{held}
-use Rattle.links_sqrt3.proofs.StepLaws.{Swapping, swapping_start, swapping-ok, swapping-on, swapping-done}
+use Rattle.links_sqrt3.proofs.StepLaws.{Swapping}
 use Rattle.links_sqrt3.proofs.swaps.swap_edges.Given as goal
 
 abbrev pub invariant-loop-e : goal.invariant-loop-e

@@ -1,7 +1,6 @@
 use mathlib.Core.Path.{sym, ap, ◌∙◌}
 use Rattle.scope.specs.Links.{Links}
 use Rattle.links_sqrt3.proofs.StepLaws.{inner-rim, inner-in}
-use borrow.Author.Rules.{rules}
 use Rattle.links_sqrt3.proofs.swaps.swap_inner.Goals as goal
 
 pub returns-then-rim_edge : goal.returns-then-rim_edge

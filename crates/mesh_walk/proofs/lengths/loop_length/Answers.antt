@@ -1,11 +1,5 @@
-use Prim.Native.Nat.{◌+◌, ◌*◌}
-use mathlib.Core.Path.{◌≡◌}
-use lib.ListN.{length}
 use native.Mathlib.Omega.{arith}
-use borrow.Author.Rules.{rules}
-use Rattle.mesh.specs.Words.{next_at}
-use Rattle.mesh.specs.Rounds.{Walk, loop_at}
-use Rattle.mesh.proofs.RoundLaws.{Left, left_out, left_back, left-on, walk-has, walk-on}
+use Rattle.mesh.proofs.RoundLaws.{left_out, left_back, left-on, walk-has, walk-on}
 use Rattle.mesh_walk.proofs.lengths.loop_length.Goals as goal
 
 pub loop-left-init : goal.loop-left-init

@@ -1,11 +1,9 @@
 use Prim.Native.Nat.{◌+◌, ◌*◌}
 use mathlib.Core.Path.{◌≡◌}
 use lib.ListN.{length}
-use native.Mathlib.Omega.{arith}
-use borrow.Author.Rules.{rules}
 use Rattle.mesh.specs.Words.{turn_at}
 use Rattle.mesh.specs.Rounds.{Walk, turns_at}
-use Rattle.mesh.proofs.RoundLaws.{Left, left_out, left_back, left-on, walk-has, walk-on}
+use Rattle.mesh.proofs.RoundLaws.{Left}
 use Rattle.mesh_walk.proofs.lengths.turn_length.Given as goal
 
 abbrev pub invariant-loop-left : goal.invariant-loop-left

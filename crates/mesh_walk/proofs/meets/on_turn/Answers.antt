@@ -1,10 +1,6 @@
 use mathlib.Core.List.{[]}
-use mathlib.Core.Path.{◌≡◌, refl, sym, ◌∙◌}
-use borrow.Author.Rules.{rules}
-use Rattle.scope.specs.Lists.{has}
-use Rattle.mesh.specs.Words.{turn_at}
-use Rattle.mesh.specs.Rounds.{Walk, turns_at}
-use Rattle.mesh.proofs.RoundLaws.{Left, left_out, left-first, left_back, left-on, walk-has, walk-on, has-none, has_here, has-past}
+use mathlib.Core.Path.{refl, sym, ◌∙◌}
+use Rattle.mesh.proofs.RoundLaws.{left_out, left-first, left_back, left-on, walk-has, walk-on, has-none, has_here, has-past}
 use Rattle.mesh_walk.proofs.meets.on_turn.Goals as goal
 
 pub loop-left-init : goal.loop-left-init

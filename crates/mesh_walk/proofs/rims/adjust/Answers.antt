@@ -1,5 +1,4 @@
-use mathlib.Core.Path.{sym, ◌∙◌}
-use borrow.Author.Rules.{rules}
+use mathlib.Core.Path.{sym}
 use borrow.Author.Tests.{eq-eqb, ne_eqb}
 use Rattle.mesh.proofs.RoundLaws.{first-none}
 use Rattle.mesh_walk.specs.Adjust.{adjusted}

@@ -1,10 +1,6 @@
-use mathlib.Core.List.{[]}
-use mathlib.Core.Path.{◌≡◌, refl, sym, ap, ◌∙◌}
-use borrow.Author.Rules.{rules}
 use Rattle.mesh.specs.Words.{turn_at}
 use Rattle.mesh.specs.Rounds.{Walk, turns_at, rim_at, first_of}
-use Rattle.mesh.proofs.RoundLaws.{Left, left_out, left-first, left_back, left-on, walk-has, walk-on, first-none, first-here, first_past}
-use Rattle.mesh_walk.specs.Adjust.{found}
+use Rattle.mesh.proofs.RoundLaws.{Left}
 use Rattle.mesh_walk.proofs.rims.rim_out.Given as goal
 
 abbrev pub invariant-loop-left : goal.invariant-loop-left

@@ -1,9 +1,6 @@
 use mathlib.Core.List.{[]}
-use mathlib.Core.Path.{◌≡◌, refl, sym, ap, ◌∙◌}
-use borrow.Author.Rules.{rules}
-use Rattle.mesh.specs.Words.{next_at}
-use Rattle.mesh.specs.Rounds.{Walk, loop_at, rim_at, side_at, first_of}
-use Rattle.mesh.proofs.RoundLaws.{Left, left_out, left-first, left_back, left-on, walk-has, has-partner, walk-on, first-none, first-here, first_past}
+use mathlib.Core.Path.{refl, sym, ap, ◌∙◌}
+use Rattle.mesh.proofs.RoundLaws.{left_out, left-first, left_back, left-on, walk-has, has-partner, walk-on, first-none, first-here, first_past}
 use Rattle.mesh_walk.specs.Adjust.{found}
 use Rattle.mesh_walk.proofs.rims.rim_side.Goals as goal
 

@@ -1,15 +1,9 @@
-use borrow.Author.Rules.{rules}
-use Prim.Native.Nat.{◌≤◌, ◌<◌, ◌+◌, ◌-◌, ◌*◌}
-use mathlib.Core.Path.{◌≡◌, refl, sym, ◌∙◌}
-use mathlib.Core.List.{[], map}
-use native.Mathlib.Omega.{arith}
+use Prim.Native.Nat.{◌≤◌, ◌<◌, ◌-◌}
+use mathlib.Core.List.{map}
 use Rattle.scope.specs.Point.{zero_p}
-use Rattle.scope.specs.Lists.{round}
 use Rattle.mesh.specs.Words.{face_at, turn_at}
-use Rattle.mesh.proofs.PartnerLaws.{partner-lt}
 use Rattle.points_catmull.specs.Sums.{Inside, head_point, slot}
-use Rattle.points_catmull.proofs.SumLaws.{Carried, joins, starts, goes_on, is-back, runs-out}
-use Rattle.points_catmull.proofs.CatmullLaws.{ring-is, faced-in, inside_on, inside-here}
+use Rattle.points_catmull.proofs.SumLaws.{Carried}
 use Rattle.points_catmull.proofs.catmull.inner_ring.Given as goal
 
 abbrev pub invariant-loop-left : goal.invariant-loop-left

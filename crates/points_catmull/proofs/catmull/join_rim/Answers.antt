@@ -1,6 +1,5 @@
 use mathlib.Core.Path.{sym, ◌∙◌}
 use Rattle.points_catmull.proofs.CatmullLaws.{joined-yes, joined-no}
-use borrow.Author.Rules.{rules}
 use Rattle.points_catmull.proofs.catmull.join_rim.Goals as goal
 
 pub returns-then-rim_edge : goal.returns-then-rim_edge

@@ -1,11 +1,6 @@
 use borrow.Author.Rules.{rules}
-use Prim.Native.Nat.{◌≤◌, ◌<◌, ◌+◌, ◌-◌, ◌*◌}
-use mathlib.Core.Path.{◌≡◌, refl, sym, ◌∙◌}
-use mathlib.Core.List.{[], map}
+use mathlib.Core.Path.{◌≡◌, ◌∙◌}
 use native.Mathlib.Omega.{arith}
-use Rattle.points_catmull.specs.Place.{place, made}
-use Rattle.points_catmull.specs.Sums.{mesh_of, slot}
-use Rattle.points_catmull.specs.Catmull.{edge_by}
 use Rattle.points_catmull.proofs.PlaceLaws.{made_none, length-laid, made-next, laid-behind}
 use Rattle.points_catmull.proofs.CatmullLaws.{edge_same}
 use Rattle.points_catmull.proofs.catmull.put_edges.Goals as goal

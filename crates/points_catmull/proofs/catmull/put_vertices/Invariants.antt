@@ -1,13 +1,9 @@
-use borrow.Author.Rules.{rules}
-use Prim.Native.Nat.{◌≤◌, ◌<◌, ◌+◌, ◌-◌, ◌*◌}
-use mathlib.Core.Path.{◌≡◌, refl, sym, ◌∙◌}
-use mathlib.Core.List.{[], map}
-use native.Mathlib.Omega.{arith}
+use Prim.Native.Nat.{◌≤◌, ◌+◌, ◌-◌}
+use mathlib.Core.Path.{◌≡◌}
+use mathlib.Core.List.{[]}
 use Rattle.points_catmull.specs.Place.{place, made}
 use Rattle.points_catmull.specs.Sums.{mesh_of, slot}
 use Rattle.points_catmull.specs.Catmull.{vertex_by}
-use Rattle.points_catmull.proofs.PlaceLaws.{made_none, length-laid, made-first, laid-behind}
-use Rattle.points_catmull.proofs.CatmullLaws.{vertex-same}
 use Rattle.points_catmull.proofs.catmull.put_vertices.Given as goal
 
 abbrev pub invariant-loop-v : goal.invariant-loop-v

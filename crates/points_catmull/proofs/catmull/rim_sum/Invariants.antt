@@ -1,14 +1,8 @@
-use borrow.Author.Rules.{rules}
-use Prim.Native.Nat.{◌≤◌, ◌<◌, ◌+◌, ◌-◌, ◌*◌}
-use mathlib.Core.Path.{◌≡◌, refl, sym, ◌∙◌}
-use mathlib.Core.List.{[], map}
-use native.Mathlib.Omega.{arith}
-use Rattle.scope.specs.Lists.{only}
+use Prim.Native.Nat.{◌≤◌, ◌<◌, ◌+◌, ◌*◌}
 use Rattle.mesh.specs.Words.{turn_at}
-use Rattle.mesh.proofs.PartnerLaws.{partner-lt}
 use Rattle.points_catmull.specs.Sums.{slot}
-use Rattle.points_catmull.proofs.SumLaws.{Carried, starts, goes_on, is-back, runs-out}
-use Rattle.points_catmull.proofs.CatmullLaws.{rim_points, joins-rim, joined-count}
+use Rattle.points_catmull.proofs.SumLaws.{Carried}
+use Rattle.points_catmull.proofs.CatmullLaws.{rim_points}
 use Rattle.points_catmull.proofs.catmull.rim_sum.Given as goal
 
 abbrev pub invariant-loop-left : goal.invariant-loop-left

@@ -1,9 +1,7 @@
 use mathlib.Core.Path.{sym, ◌∙◌}
 use Rattle.points_catmull.specs.Sums.{slot}
 use native.Mathlib.Omega.{arith}
-use borrow.Author.Tests.{not-true, not-false}
 use Rattle.points_catmull.proofs.CatmullLaws.{few-sum, out-lt, not-rim, vertex-still, vertex-alone, vertex-rim, vertex-inner}
-use borrow.Author.Rules.{rules}
 use Rattle.points_catmull.proofs.catmull.vertex_point.Goals as goal
 
 pub returns-then-not-update : goal.returns-then-not-update

@@ -1,5 +1,4 @@
 use Rattle.points_catmull.proofs.SumLaws.{face-point-is}
-use borrow.Author.Rules.{rules}
 use Rattle.points_catmull.proofs.sums.face_point.Goals as goal
 
 pub loop_heads-s-requires : goal.loop_heads-s-requires

@@ -1,12 +1,7 @@
 use mathlib.Core.Path.{refl, ◌∙◌}
 use native.Mathlib.Omega.{arith}
 use borrow.Author.Rules.{rules}
-use Prim.Native.Nat.{◌≤◌, ◌<◌, ◌-◌}
-use mathlib.Core.List.{map}
-use Rattle.scope.specs.Point.{zero_p}
-use Rattle.mesh.specs.Words.{next_at}
-use Rattle.points_catmull.specs.Sums.{head_point}
-use Rattle.points_catmull.proofs.SumLaws.{Carried, joins, starts, goes_on, is-back, runs-out}
+use Rattle.points_catmull.proofs.SumLaws.{joins, goes_on, is-back, runs-out}
 use Rattle.points_catmull.proofs.sums.loop_heads.Goals as goal
 
 pub loop-left-init : goal.loop-left-init

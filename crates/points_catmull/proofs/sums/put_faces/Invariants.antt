@@ -1,12 +1,9 @@
-use borrow.Author.Rules.{rules}
 use Prim.Native.Nat.{◌≤◌, ◌-◌, ◌*◌}
-use mathlib.Core.Path.{◌≡◌, ◌∙◌}
+use mathlib.Core.Path.{◌≡◌}
 use mathlib.Core.List.{[]}
-use native.Mathlib.Omega.{arith}
 use Rattle.scope.specs.Points.{face_point}
 use Rattle.points_catmull.specs.Place.{place, made}
 use Rattle.points_catmull.specs.Sums.{mesh_of}
-use Rattle.points_catmull.proofs.PlaceLaws.{made_none, length-laid, made-next}
 use Rattle.points_catmull.proofs.sums.put_faces.Given as goal
 
 abbrev pub invariant-loop-f : goal.invariant-loop-f

@@ -1,9 +1,7 @@
 use Prim.Native.Nat.{◌+◌, ◌*◌}
 use mathlib.Core.Path.{sym, ◌∙◌}
 use native.Mathlib.Omega.{arith}
-use borrow.Author.Tests.{not-true, not-false}
 use Rattle.points_triangles.proofs.PassLaws.{edge-still, edge-rim, edge-inner}
-use borrow.Author.Rules.{rules}
 use Rattle.points_triangles.proofs.edges.edge_point.Goals as goal
 
 pub load_point-a-requires : goal.load_point-a-requires

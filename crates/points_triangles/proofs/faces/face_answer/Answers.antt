@@ -1,7 +1,5 @@
-use borrow.Author.Tests.{not-true, not-false}
 use Rattle.mesh.proofs.RoundLaws.{walk-next}
 use Rattle.points_triangles.proofs.FaceLaws.{side-lt, answer-still, answer-none, answer-rim}
-use borrow.Author.Rules.{rules}
 use Rattle.points_triangles.proofs.faces.face_answer.Goals as goal
 
 pub returns-then-not-flag : goal.returns-then-not-flag

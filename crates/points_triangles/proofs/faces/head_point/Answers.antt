@@ -1,6 +1,5 @@
-use mathlib.Core.Path.{sym, ◌∙◌}
+use mathlib.Core.Path.{◌∙◌}
 use native.Mathlib.Omega.{arith}
-use borrow.Author.Rules.{rules}
 use Rattle.points_triangles.proofs.faces.head_point.Goals as goal
 
 pub load_point-requires : goal.load_point-requires

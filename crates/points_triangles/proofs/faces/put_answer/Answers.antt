@@ -1,5 +1,4 @@
 use mathlib.Core.Path.{refl, ◌∙◌}
-use borrow.Author.Rules.{rules}
 use Rattle.points_triangles.proofs.faces.put_answer.Goals as goal
 
 pub returns-in-Centre : goal.returns-in-Centre

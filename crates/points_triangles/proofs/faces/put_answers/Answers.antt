@@ -1,11 +1,8 @@
 use borrow.Author.Rules.{rules}
-use Prim.Native.Nat.{◌≤◌, ◌<◌, ◌+◌, ◌-◌, ◌*◌}
-use mathlib.Core.Path.{◌≡◌, refl, sym, ◌∙◌}
-use mathlib.Core.List.{[]}
+use mathlib.Core.Path.{◌≡◌, ◌∙◌}
 use native.Mathlib.Omega.{arith}
-use Rattle.points_catmull.specs.Sums.{mesh_of}
 use Rattle.points_catmull.proofs.PlaceLaws.{length-laid}
-use Rattle.points_triangles.proofs.FaceLaws.{Laid, none-laid, laid-few, next-laid}
+use Rattle.points_triangles.proofs.FaceLaws.{none-laid, laid-few, next-laid}
 use Rattle.points_triangles.proofs.faces.put_answers.Goals as goal
 
 pub loop-f-init : goal.loop-f-init

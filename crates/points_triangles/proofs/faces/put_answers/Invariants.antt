@@ -1,11 +1,7 @@
-use borrow.Author.Rules.{rules}
-use Prim.Native.Nat.{◌≤◌, ◌<◌, ◌+◌, ◌-◌, ◌*◌}
-use mathlib.Core.Path.{◌≡◌, refl, sym, ◌∙◌}
+use Prim.Native.Nat.{◌≤◌, ◌-◌}
 use mathlib.Core.List.{[]}
-use native.Mathlib.Omega.{arith}
 use Rattle.points_catmull.specs.Sums.{mesh_of}
-use Rattle.points_catmull.proofs.PlaceLaws.{length-laid}
-use Rattle.points_triangles.proofs.FaceLaws.{Laid, none-laid, laid-few, next-laid}
+use Rattle.points_triangles.proofs.FaceLaws.{Laid}
 use Rattle.points_triangles.proofs.faces.put_answers.Given as goal
 
 abbrev pub invariant-loop-f : goal.invariant-loop-f

@@ -1,8 +1,7 @@
-use mathlib.Core.Path.{sym, ◌∙◌}
+use mathlib.Core.Path.{◌∙◌}
 use native.Mathlib.Omega.{arith}
 use Rattle.mesh.proofs.PartnerLaws.{partner-lt}
 use Rattle.points_triangles.specs.Faces.{pair_on}
-use borrow.Author.Rules.{rules}
 use Rattle.points_triangles.proofs.faces.rim_pair.Goals as goal
 
 pub next-requires : goal.next-requires

@@ -1,6 +1,5 @@
 use mathlib.Core.Path.{sym, ◌∙◌}
 use Rattle.points_triangles.proofs.VertexLaws.{inner-row, inner-none}
-use borrow.Author.Rules.{rules}
 use Rattle.points_triangles.proofs.inner.inner_point.Goals as goal
 
 pub returns-in-Row : goal.returns-in-Row

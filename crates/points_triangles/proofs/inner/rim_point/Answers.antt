@@ -1,7 +1,6 @@
-use mathlib.Core.Path.{sym, ◌∙◌}
+use mathlib.Core.Path.{◌∙◌}
 use native.Mathlib.Omega.{arith}
 use Rattle.mesh.proofs.PartnerLaws.{partner-lt}
-use borrow.Author.Rules.{rules}
 use Rattle.points_triangles.proofs.inner.rim_point.Goals as goal
 
 pub load_point-a-requires : goal.load_point-a-requires

@@ -2,7 +2,6 @@ use mathlib.Core.Path.{sym, ◌∙◌}
 use native.Mathlib.Omega.{arith}
 use Rattle.points_catmull.proofs.CatmullLaws.{out-lt}
 use Rattle.points_triangles.proofs.VertexLaws.{moved-alone, moved-rim, moved-inner}
-use borrow.Author.Rules.{rules}
 use Rattle.points_triangles.proofs.inner.vertex_point.Goals as goal
 
 pub returns-then-h : goal.returns-then-h

@@ -1,7 +1,5 @@
 use native.Mathlib.Omega.{arith}
-use borrow.Author.Tests.{not-true, not-false}
 use Rattle.points_triangles.proofs.PassLaws.{loop-kept, loop-moved, loop-refused}
-use borrow.Author.Rules.{rules}
 use Rattle.points_triangles.proofs.passes.loop_points.Goals as goal
 
 pub returns-then-not-update : goal.returns-then-not-update

@@ -1,7 +1,6 @@
 use native.Mathlib.Omega.{arith}
 use Rattle.points_catmull.proofs.PlaceLaws.{length-laid}
 use Rattle.points_triangles.proofs.PassLaws.{sqrt-moved, sqrt-refused}
-use borrow.Author.Rules.{rules}
 use Rattle.points_triangles.proofs.passes.sqrt_points.Goals as goal
 
 pub put_vertices-requires : goal.put_vertices-requires

@@ -1,9 +1,6 @@
 use borrow.Author.Rules.{rules}
-use Prim.Native.Nat.{◌≤◌, ◌<◌, ◌+◌, ◌-◌, ◌*◌}
-use mathlib.Core.Path.{◌≡◌, refl, sym, ◌∙◌}
+use mathlib.Core.Path.{◌≡◌, ◌∙◌}
 use native.Mathlib.Omega.{arith}
-use Rattle.scope.specs.Points.{point_at}
-use Rattle.points_catmull.specs.Place.{place, made}
 use Rattle.points_catmull.proofs.PlaceLaws.{made_none, length-laid, made-first}
 use Rattle.points_triangles.proofs.vertices.put_kept.Goals as goal
 

@@ -1,10 +1,7 @@
-use borrow.Author.Rules.{rules}
-use Prim.Native.Nat.{◌≤◌, ◌<◌, ◌+◌, ◌-◌, ◌*◌}
-use mathlib.Core.Path.{◌≡◌, refl, sym, ◌∙◌}
-use native.Mathlib.Omega.{arith}
+use Prim.Native.Nat.{◌≤◌, ◌-◌}
+use mathlib.Core.Path.{◌≡◌}
 use Rattle.scope.specs.Points.{point_at}
 use Rattle.points_catmull.specs.Place.{place, made}
-use Rattle.points_catmull.proofs.PlaceLaws.{made_none, length-laid, made-first}
 use Rattle.points_triangles.proofs.vertices.put_kept.Given as goal
 
 abbrev pub invariant-loop-v : goal.invariant-loop-v

@@ -1,16 +1,10 @@
 use borrow.Author.Rules.{rules}
-use Prim.Native.Nat.{◌≤◌, ◌<◌, ◌+◌, ◌-◌, ◌*◌}
-use mathlib.Core.Path.{◌≡◌, refl, sym, ◌∙◌}
-use mathlib.Core.List.{[]}
-use mathlib.Core.Logic.{⊎_elim}
+use Prim.Native.Nat.{◌<◌, ◌+◌, ◌*◌}
+use mathlib.Core.Path.{refl, ◌∙◌}
 use native.Mathlib.Omega.{arith}
 use lib.ListN.{length}
-use mathlib.Core.Option.{none}
-use Rattle.points_catmull.specs.Place.{place, made}
-use Rattle.points_catmull.specs.Sums.{mesh_of}
 use Rattle.points_catmull.proofs.PlaceLaws.{made_none, length-laid}
-use Rattle.points_triangles.specs.Vertices.{vertex_of}
-use Rattle.points_triangles.proofs.VertexLaws.{lowest, lowest-zero, moved_to, by_row, moved_by, moved_none, put_next, put_all, put_some}
+use Rattle.points_triangles.proofs.VertexLaws.{lowest-zero, moved_to, by_row, moved_by, moved_none, put_next, put_all, put_some}
 use Rattle.points_triangles.proofs.vertices.put_vertices.Goals as goal
 use Rattle.points_triangles.proofs.vertices.put_vertices.Goals.{in-To, in-By}
 

@@ -1,16 +1,11 @@
-use borrow.Author.Rules.{rules}
-use Prim.Native.Nat.{◌≤◌, ◌<◌, ◌+◌, ◌-◌, ◌*◌}
-use mathlib.Core.Path.{◌≡◌, refl, sym, ◌∙◌}
+use Prim.Native.Nat.{◌≤◌, ◌-◌}
+use mathlib.Core.Path.{◌≡◌}
 use mathlib.Core.List.{[]}
-use mathlib.Core.Logic.{⊎_elim}
-use native.Mathlib.Omega.{arith}
-use lib.ListN.{length}
 use mathlib.Core.Option.{none}
 use Rattle.points_catmull.specs.Place.{place, made}
 use Rattle.points_catmull.specs.Sums.{mesh_of}
-use Rattle.points_catmull.proofs.PlaceLaws.{made_none, length-laid}
 use Rattle.points_triangles.specs.Vertices.{vertex_of}
-use Rattle.points_triangles.proofs.VertexLaws.{lowest, lowest-zero, moved_to, by_row, moved_by, moved_none, put_next, put_all, put_some}
+use Rattle.points_triangles.proofs.VertexLaws.{lowest}
 use Rattle.points_triangles.proofs.vertices.put_vertices.Given as goal
 
 abbrev pub invariant-loop-v : goal.invariant-loop-v

@@ -1,4 +1,3 @@
-use borrow.Author.Rules.{rules}
 use native.Mathlib.Omega.{arith}
 use Rattle.refine_words.proofs.LineLaws.{◌⨾◌, bound_of, answered, counts-put}
 use Rattle.refine_words.proofs.lines.put_counts.Goals as goal

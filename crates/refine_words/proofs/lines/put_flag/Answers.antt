@@ -1,6 +1,5 @@
-use borrow.Author.Rules.{rules}
 use native.Mathlib.Omega.{arith}
-use Rattle.refine_words.proofs.LineLaws.{put_of, answered}
+use Rattle.refine_words.proofs.LineLaws.{put_of}
 use Rattle.refine_words.proofs.lines.put_flag.Goals as goal
 
 pub returns-then-flag : goal.returns-then-flag

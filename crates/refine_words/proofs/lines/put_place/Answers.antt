@@ -1,7 +1,6 @@
-use borrow.Author.Rules.{rules}
 use native.Mathlib.Omega.{arith}
 use Rattle.refine_words.specs.Lines.{place_text}
-use Rattle.refine_words.proofs.LineLaws.{bound_of, answered}
+use Rattle.refine_words.proofs.LineLaws.{bound_of}
 use Rattle.refine_words.proofs.lines.put_place.Goals as goal
 
 pub returns-in-AtVertex : goal.returns-in-AtVertex

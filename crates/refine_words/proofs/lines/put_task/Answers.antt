@@ -1,4 +1,3 @@
-use borrow.Author.Rules.{rules}
 use native.Mathlib.Omega.{arith}
 use Rattle.refine_words.proofs.LineLaws.{◌⨾◌, put_of, bound_of, answered, task-put}
 use Rattle.refine_words.proofs.lines.put_task.Goals as goal

@@ -1,6 +1,5 @@
-use borrow.Author.Rules.{rules}
 use native.Mathlib.Omega.{arith}
-use Rattle.refine_words.proofs.LineLaws.{◌⨾◌, bound_of, answered, rule-put, deleted-put, weight-put, nowhere-put}
+use Rattle.refine_words.proofs.LineLaws.{◌⨾◌, bound_of, rule-put, deleted-put, weight-put, nowhere-put}
 use Rattle.refine_words.proofs.lines.put_where.Goals as goal
 
 pub returns-in-NotConsistent : goal.returns-in-NotConsistent

@@ -1,4 +1,3 @@
-use borrow.Author.Rules.{rules}
 use Rattle.refine_words.proofs.WordLaws.{update-asked, keep-asked, flag-unknown}
 use Rattle.refine_words.proofs.words.flag_asked.Goals as goal
 

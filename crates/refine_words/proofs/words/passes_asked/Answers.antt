@@ -1,8 +1,5 @@
-use Prim.Native.Nat.{◌-◌}
 use native.Mathlib.Omega.{arith}
-use lib.ListN.{length}
-use borrow.Author.Rules.{rules}
-use Rattle.refine_words.proofs.WordLaws.{Digits, no-digits, small, digit-on, empty-word, long-word, below-digits, above-digits, all_digits}
+use Rattle.refine_words.proofs.WordLaws.{no-digits, small, digit-on, empty-word, long-word, below-digits, above-digits, all_digits}
 use Rattle.refine_words.proofs.words.passes_asked.Goals as goal
 
 pub returns-then-word-eq0 : goal.returns-then-word-eq0

@@ -1,8 +1,6 @@
 use Prim.Native.Nat.{◌-◌}
-use native.Mathlib.Omega.{arith}
 use lib.ListN.{length}
-use borrow.Author.Rules.{rules}
-use Rattle.refine_words.proofs.WordLaws.{Digits, no-digits, small, digit-on, empty-word, long-word, below-digits, above-digits, all_digits}
+use Rattle.refine_words.proofs.WordLaws.{Digits}
 use Rattle.refine_words.proofs.words.passes_asked.Given as goal
 
 abbrev pub invariant-loop-i : goal.invariant-loop-i

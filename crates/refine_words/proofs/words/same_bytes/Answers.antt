@@ -1,10 +1,7 @@
-use Prim.Native.Nat.{◌-◌}
 use native.Mathlib.Omega.{arith}
-use lib.ListN.{length}
-use borrow.Author.Rules.{rules}
 use borrow.Author.Tests.{eq-eqb, ne_eqb}
-use Rattle.file_read.proofs.FillLaws.{Passed, passed_none, passed_on, passed-all, passed-not}
-use Rattle.refine_words.proofs.WordLaws.{alike, longer-differs, by-places}
+use Rattle.file_read.proofs.FillLaws.{passed_none, passed_on, passed-all, passed-not}
+use Rattle.refine_words.proofs.WordLaws.{longer-differs, by-places}
 use Rattle.refine_words.proofs.words.same_bytes.Goals as goal
 
 pub returns-then-a-b : goal.returns-then-a-b

@@ -1,4 +1,3 @@
-use borrow.Author.Rules.{rules}
 use Rattle.refine_words.proofs.WordLaws.{scheme-known, scheme-unknown}
 use Rattle.refine_words.proofs.words.scheme_asked.Goals as goal
 

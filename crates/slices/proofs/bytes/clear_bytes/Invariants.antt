@@ -1,9 +1,7 @@
-use borrow.Author.Rules.{rules}
-use native.Mathlib.Omega.{arith}
 use Prim.Native.Nat.{◌≤◌, ◌-◌}
-use mathlib.Core.Path.{◌≡◌, refl}
-use lib.ListN.{length, length-set}
-use Rattle.slices.proofs.CopyLaws.{Clear, clear-start, clear-on, clear-done}
+use mathlib.Core.Path.{◌≡◌}
+use lib.ListN.{length}
+use Rattle.slices.proofs.CopyLaws.{Clear}
 use Rattle.slices.proofs.bytes.clear_bytes.Given as goal
 
 abbrev pub invariant-loop-i : goal.invariant-loop-i

@@ -1,7 +1,5 @@
-use borrow.Author.Rules.{rules}
-use native.Mathlib.Omega.{arith}
 use Prim.Native.Nat.{◌≤◌, ◌-◌}
-use Rattle.slices.proofs.CopyLaws.{Copied, copy-none, copy-on, length-copied, copy_done}
+use Rattle.slices.proofs.CopyLaws.{Copied}
 use Rattle.slices.proofs.bytes.copy_bytes.Given as goal
 
 abbrev pub invariant-loop-i : goal.invariant-loop-i

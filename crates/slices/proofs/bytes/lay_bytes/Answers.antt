@@ -1,5 +1,3 @@
-use borrow.Author.Rules.{rules}
-use native.Mathlib.Omega.{arith}
 use Rattle.slices.proofs.CopyLaws.{lay-over}
 use Rattle.slices.proofs.bytes.lay_bytes.Goals as goal
 

@@ -1,7 +1,5 @@
 use borrow.Author.Rules.{rules}
-use Rattle.slices.proofs.MarkLaws.{NoMark, no-mark-start, mark-found, mark_on, mark-none}
-use lib.ListN.{take}
-use Prim.Native.Nat.{◌≤◌, ◌-◌}
+use Rattle.slices.proofs.MarkLaws.{no-mark-start, mark-found, mark_on, mark-none}
 use Rattle.slices.proofs.marks.first_mark.Goals as goal
 
 pub loop-i-init : goal.loop-i-init

@@ -1,5 +1,4 @@
-use borrow.Author.Rules.{rules}
-use Rattle.slices.proofs.MarkLaws.{NoMark, no-mark-start, mark-found, mark_on, mark-none}
+use Rattle.slices.proofs.MarkLaws.{NoMark}
 use lib.ListN.{take}
 use Prim.Native.Nat.{◌≤◌, ◌-◌}
 use Rattle.slices.proofs.marks.first_mark.Given as goal

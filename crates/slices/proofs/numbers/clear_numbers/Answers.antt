@@ -1,10 +1,9 @@
 use borrow.Author.Rules.{rules}
 use native.Mathlib.Omega.{arith}
-use Prim.Native.Nat.{◌≤◌, ◌-◌}
-use mathlib.Core.Path.{◌≡◌, refl}
-use lib.ListN.{length, length-set}
+use mathlib.Core.Path.{refl}
+use lib.ListN.{length-set}
 use Rattle.scope.specs.Slices.{float_zero}
-use Rattle.slices.proofs.CopyLaws.{Clear, clear-start, clear-on, clear-done}
+use Rattle.slices.proofs.CopyLaws.{clear-start, clear-on, clear-done}
 use Rattle.slices.proofs.numbers.clear_numbers.Goals as goal
 
 pub loop-i-init : goal.loop-i-init

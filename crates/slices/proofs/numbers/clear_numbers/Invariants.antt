@@ -1,10 +1,8 @@
-use borrow.Author.Rules.{rules}
-use native.Mathlib.Omega.{arith}
 use Prim.Native.Nat.{◌≤◌, ◌-◌}
-use mathlib.Core.Path.{◌≡◌, refl}
-use lib.ListN.{length, length-set}
+use mathlib.Core.Path.{◌≡◌}
+use lib.ListN.{length}
 use Rattle.scope.specs.Slices.{float_zero}
-use Rattle.slices.proofs.CopyLaws.{Clear, clear-start, clear-on, clear-done}
+use Rattle.slices.proofs.CopyLaws.{Clear}
 use Rattle.slices.proofs.numbers.clear_numbers.Given as goal
 
 abbrev pub invariant-loop-i : goal.invariant-loop-i

@@ -1,8 +1,7 @@
 use borrow.Author.Rules.{rules}
 use native.Mathlib.Omega.{arith}
-use Prim.Native.Nat.{◌≤◌, ◌-◌}
 use lib.Ieee.{nan}
-use Rattle.slices.proofs.CopyLaws.{Copied, copy-none, copy-on, length-copied, copy_done}
+use Rattle.slices.proofs.CopyLaws.{copy-none, copy-on, length-copied, copy_done}
 use Rattle.slices.proofs.numbers.copy_numbers.Goals as goal
 
 pub loop-i-init : goal.loop-i-init

@@ -1,6 +1,4 @@
 use Rattle.scope.specs.Slices.{float_zero}
-use borrow.Author.Rules.{rules}
-use native.Mathlib.Omega.{arith}
 use Rattle.slices.proofs.CopyLaws.{lay-over}
 use Rattle.slices.proofs.numbers.lay_numbers.Goals as goal
 

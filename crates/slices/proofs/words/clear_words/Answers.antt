@@ -1,9 +1,8 @@
 use borrow.Author.Rules.{rules}
 use native.Mathlib.Omega.{arith}
-use Prim.Native.Nat.{◌≤◌, ◌-◌}
-use mathlib.Core.Path.{◌≡◌, refl}
-use lib.ListN.{length, length-set}
-use Rattle.slices.proofs.CopyLaws.{Clear, clear-start, clear-on, clear-done}
+use mathlib.Core.Path.{refl}
+use lib.ListN.{length-set}
+use Rattle.slices.proofs.CopyLaws.{clear-start, clear-on, clear-done}
 use Rattle.slices.proofs.words.clear_words.Goals as goal
 
 pub loop-i-init : goal.loop-i-init

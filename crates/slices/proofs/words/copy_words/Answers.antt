@@ -1,7 +1,6 @@
 use borrow.Author.Rules.{rules}
 use native.Mathlib.Omega.{arith}
-use Prim.Native.Nat.{◌≤◌, ◌-◌}
-use Rattle.slices.proofs.CopyLaws.{Copied, copy-none, copy-on, length-copied, copy_done}
+use Rattle.slices.proofs.CopyLaws.{copy-none, copy-on, length-copied, copy_done}
 use Rattle.slices.proofs.words.copy_words.Goals as goal
 
 pub loop-i-init : goal.loop-i-init
