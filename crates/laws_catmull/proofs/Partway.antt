@@ -1,5 +1,5 @@
 -- A Catmull-Clark pass, face by face: good after each. Assumes nothing.
-use mathlib.Core.Path.{◌≡◌, refl, ap, ◌∙◌, subst, subst⁻¹}
+use mathlib.Core.Path.{◌≡◌, refl, ◌∙◌, subst, subst⁻¹}
 use mathlib.Core.Logic.{◌⊎◌, inl, inr, ◌≢◌}
 use Prim.Native.Nat.{ℕ, zero, suc, ◌+◌, ◌-◌, ◌*◌, ◌≤◌, ◌<◌}
 use native.Mathlib.Omega.{arith}
@@ -9,13 +9,11 @@ use Rattle.scope.specs.Links.{Links, next, start, loop}
 use Rattle.scope.specs.Passes.{split_edges, catmull_face, catmull_pass}
 use Rattle.scope.specs.Tally.{tally_of, catmull_tally}
 use Rattle.laws_mesh.specs.Of.{Good}
-use Rattle.laws_mesh.specs.Sides.{Within, Sided}
+use Rattle.laws_mesh.specs.Sides.{Within}
 use Rattle.laws_mesh.proofs.Cycle.{split}
 use Rattle.laws_mesh.proofs.Count.{Length}
 use Rattle.laws_mesh.proofs.Loops.{loop-cycle, face-three}
-use Rattle.laws_mesh.proofs.Corners.{sum-all, rims-corners}
 use Rattle.laws_mesh.proofs.Ring.{under}
-use Rattle.laws_mesh.proofs.Sides.{tally-is}
 use Rattle.laws_mesh.proofs.SplitEdges.{halved, halved-lengths}
 use Rattle.laws_catmull.proofs.Face.{catmull-face-counts, catmull-face-good, catmull-face-old, catmull-face-new}
 

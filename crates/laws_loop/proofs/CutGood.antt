@@ -3,8 +3,7 @@ use mathlib.Core.Path.{◌≡◌, refl, sym, ap, ◌∙◌}
 use mathlib.Core.Logic.{◌⊎◌, inl, inr, ◌≢◌}
 use Prim.Native.Nat.{ℕ, zero, suc, ◌+◌, ◌*◌, ◌≤◌, ◌<◌}
 use native.Mathlib.Omega.{arith}
-use lib.ListN.{length}
-use Rattle.scope.specs.Links.{Links, NONE, face, next, prev, start, loop}
+use Rattle.scope.specs.Links.{Links, NONE, face, next, prev}
 use Rattle.scope.specs.Edits.{cut_off}
 use Rattle.laws_mesh.specs.Reach.{iter}
 use Rattle.laws_mesh.specs.Mesh.{Shape, Core}
@@ -12,11 +11,10 @@ use Rattle.laws_mesh.specs.Of.{mesh, Good}
 use Rattle.laws_mesh.proofs.Cycle.{split, Perm, Part, iter-add, iter-reach, reach-ind}
 use Rattle.laws_mesh.proofs.Count.{Length}
 use Rattle.laws_mesh.proofs.Facts.{perm-next, next-ne, prev-face}
-use Rattle.laws_mesh.proofs.Loops.{good-shape, loop-length, loop-cycle}
+use Rattle.laws_mesh.proofs.Loops.{good-shape}
 use Rattle.laws_mesh.proofs.LoopParts.{cycle-once}
-use Rattle.laws_mesh.proofs.Sides.{bears-length, three-cycle}
 use Rattle.laws_mesh.proofs.InsertEdge.{InsertEdge}
-use Rattle.laws_mesh.proofs.InsertLaws.{Across, cut-off-is, cut-off-good, cut-off-counts, cut-off-start-old}
+use Rattle.laws_mesh.proofs.InsertLaws.{Across, cut-off-is, cut-off-good, cut-off-counts}
 
 module _ (m : Links) (g : Good m) (h j : ℕ) (h-in : h < 2 * m.ne) (faced : face m h ≢ NONE) (len : Length (next m) h (j + 3)) (more : 1 ≤ j)
     (room_e : m.ne + 1 ≤ 1048576) (room_f : m.nf + 1 ≤ 1048576) where

@@ -13,9 +13,7 @@ use Rattle.laws_mesh.specs.Sides.{Within, Triangles}
 use Rattle.laws_mesh.proofs.Cycle.{split}
 use Rattle.laws_mesh.proofs.Count.{Length}
 use Rattle.laws_mesh.proofs.Loops.{loop-cycle}
-use Rattle.laws_mesh.proofs.Corners.{sum-all, rims-corners}
 use Rattle.laws_mesh.proofs.Ring.{under}
-use Rattle.laws_mesh.proofs.Sides.{tally-is}
 use Rattle.laws_mesh.proofs.SplitEdges.{halved, halved-lengths}
 use Rattle.laws_loop.proofs.Face.{Trimmed, loop-face}
 

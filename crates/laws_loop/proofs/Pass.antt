@@ -1,6 +1,6 @@
 -- A whole Loop pass over triangles: good again, with the counts of document 01's table, and every face a triangle. Assumes nothing.
 use mathlib.Core.Path.{◌≡◌, ◌∙◌}
-use Prim.Native.Nat.{ℕ, ◌+◌, ◌*◌}
+use Prim.Native.Nat.{◌+◌, ◌*◌}
 use native.Mathlib.Omega.{arith}
 use lib.ListN.{length}
 use Rattle.scope.specs.Links.{Links, start, loop}
