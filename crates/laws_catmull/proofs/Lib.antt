@@ -1,2 +1,4 @@
 pub mod Face
+pub mod Partway
+pub mod Tally
 pub mod Pass

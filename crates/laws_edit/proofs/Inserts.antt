@@ -13,7 +13,8 @@ use Rattle.laws_mesh.proofs.Cycle.{split, if-eq, if-ne, Perm, Part, reach-eq, re
 use Rattle.laws_mesh.proofs.Facts.{perm-next, loop-face, prev-face}
 use Rattle.laws_mesh.proofs.Shapes.{shape_of, size_of}
 use Rattle.laws_mesh.proofs.Carriers.{SameSet, OneMore, NewEdge, Unmarked, UnmarkedHalf, unmarked-same, unmarked-edge}
-use Rattle.laws_mesh.proofs.InsertEdge.{InsertEdge, insert-consistent}
+use Rattle.laws_mesh.proofs.InsertEdge.{InsertEdge}
+use Rattle.laws_mesh.proofs.InsertConsistent.{insert-consistent}
 use Rattle.laws_mesh.proofs.InsertOn.{Given, face-start-g, across-face-on, across-hole-on}
 use Rattle.laws_mesh.proofs.InsertLaws.{meet, meet-short, face-nv, face-ne, face-nf, hole-nv, hole-ne, hole-nf, face-edges_long, hole-edges_long}
 

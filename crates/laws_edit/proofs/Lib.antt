@@ -3,6 +3,7 @@ pub mod Splits
 pub mod Triangulated
 pub mod Inserts
 pub mod InsertCall
+pub mod SwapAllowed
 pub mod Swaps
 pub mod Whole
 pub mod Edits

@@ -1,4 +1,5 @@
 pub mod Meshes
 pub mod Passes
+pub mod Twice
 pub mod Sqrt3
 pub mod Calls

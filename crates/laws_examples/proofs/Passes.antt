@@ -45,21 +45,13 @@ catmull-triangle =
     let (a, b, c) = catmull-pass triangle triangle-good (within t (omega arith) (omega arith) (omega arith)) in
     (a, b ∙ t, c)
 
--- the cube, Catmull-Clark: 26/48/24; and once more
+-- the cube, Catmull-Clark: 26/48/24
 pub catmull-cube : Good (catmull_pass cube) × (tally_of (catmull_pass cube) ≡ record { v = 26; e = 48; f = 24; s = 96; b = 0 }) × Sided 4 (catmull_pass cube)
 unfolding catmull_tally
 catmull-cube =
     let t = ap catmull_tally tally-cube in
     let (a, b, c) = catmull-pass cube cube-good (within t (omega arith) (omega arith) (omega arith)) in
     (a, b ∙ t, c)
-
-pub catmull-cube-twice : Good (catmull_pass (catmull_pass cube)) × (tally_of (catmull_pass (catmull_pass cube)) ≡ record { v = 98; e = 192; f = 96; s = 384; b = 0 })
-unfolding catmull_tally
-catmull-cube-twice =
-    let (g, u, q) = catmull-cube in
-    let t = ap catmull_tally u in
-    let (a, b, c) = catmull-pass (catmull_pass cube) g (within t (omega arith) (omega arith) (omega arith)) in
-    (a, b ∙ t)
 
 -- one triangle, Loop: 6/9/4
 pub triangle-triangles : Triangles triangle

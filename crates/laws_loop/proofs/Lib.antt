@@ -1,3 +1,5 @@
+pub mod CutGood
 pub mod Cut
 pub mod Face
+pub mod Partway
 pub mod Pass

@@ -452,7 +452,3 @@ module _ {m m' : Mesh} {w y c g : ℕ} {M : ℕ → Type 0} (s : Shape m) (s' : 
           inside x
           (λ p. away x p ny (λ q. n2 (cc (C.next_prev x i))) same)
           (λ o. t.three_long x i (λ r. ne (d.face-old x i o ∙ r)) (cc (C.next_prev x i))))))))
-
-pub insert-consistent : {m m' : Mesh} {w y c g : ℕ} {M : ℕ → Type 0} → Shape m → Shape m' → Consistent m → InsertEdge m m' w y c g M
-    → m.next w ≢ y → (m.face w ≢ NONE → m.next y ≢ w) → Consistent m'
-insert-consistent s s' k d long-g long-k = record { core = insert-core s s' k.core d; three = insert-three s s' k.core d long-g long-k k.three }

@@ -16,7 +16,8 @@ use Rattle.laws_mesh.proofs.Puts.{put-long, put-long-end}
 use Rattle.laws_mesh.proofs.Shapes.{shape-mesh, size-mesh}
 use Rattle.laws_mesh.proofs.Carriers.{SameSet, OneMore, NewEdge, range_same, range-more, range-edge}
 use Rattle.laws_mesh.proofs.Paint.{paint-nv, paint-ne, paint-nf, paint-starts, paint-outs, paint-long}
-use Rattle.laws_mesh.proofs.InsertEdge.{InsertEdge, insert-consistent}
+use Rattle.laws_mesh.proofs.InsertEdge.{InsertEdge}
+use Rattle.laws_mesh.proofs.InsertConsistent.{insert-consistent}
 use Rattle.laws_mesh.proofs.Joined.{join-long}
 use Rattle.laws_mesh.proofs.InsertOn.{Given, has-old, join-face, ne-grown, edge-k, join-hole, ne-more, across-face-on, face-start-g, face-start_in, face-start-out, face-start-old}
 

@@ -3,8 +3,10 @@ pub mod Count
 pub mod Facts
 pub mod Rules
 pub mod Relink
+pub mod SplitEdgeRecord
 pub mod SplitEdge
 pub mod InsertEdge
+pub mod InsertConsistent
 pub mod Swap
 pub mod Mirror
 pub mod SwapCw
@@ -22,6 +24,7 @@ pub mod Joined
 pub mod InsertOn
 pub mod InsertLaws
 pub mod Parts
+pub mod FanRecord
 pub mod Fan
 pub mod Ring
 pub mod FanOn

@@ -2,9 +2,11 @@ pub mod Spread
 pub mod RimFan
 pub mod Centre
 pub mod RimOn
+pub mod TurnedRecord
 pub mod Turn
 pub mod Match
 pub mod Rims
+pub mod EdgedRecord
 pub mod Pass
 pub mod Points
 pub mod Waiting

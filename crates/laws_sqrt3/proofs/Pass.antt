@@ -28,13 +28,11 @@ use Rattle.laws_sqrt3.proofs.Spread.{opened-none, Spread, spread-here, spread-st
 use Rattle.laws_sqrt3.proofs.Centre.{centre-opened, centre-inner, centre-nv, centre-ne}
 use Rattle.laws_sqrt3.proofs.RimOn.{rim-opened, rim-counts}
 use Rattle.laws_sqrt3.proofs.Turn.{Turned, turns, swaps-counts}
+pub use Rattle.laws_sqrt3.proofs.EdgedRecord.{Two}
+use Rattle.laws_sqrt3.proofs.EdgedRecord.{Edged}
 
 abbrev pub Any : ℕ → Type 0
 Any t = Unit {0}
-
--- both halves of u's edge have faces
-abbrev pub Two : Links → ℕ → Type 0
-Two m u = (face m u ≢ NONE) × (face m (partner u) ≢ NONE)
 
 -- ---- from the opened faces to the edges
 module _ (m₀ m : Links) (Q R : ℕ → Type 0) (g₀ : Good m₀) (s : Spread m₀ m Q m₀.nf) (inner : (t : ℕ) → t < 2 * m.ne → face m t ≡ NONE → R t) where
@@ -151,10 +149,6 @@ module _ (m₀ : Links) (g : Good m₀) (tri : Triangular (mesh m₀)) (v : m₀
           go (x₁, x₂, x₃) (y₁, y₂, y₃) (inr (inr z)) = absurd (let w = ap (λ (t : ℕ). head m (partner t)) z ∙ tri-tip (good-shape m d.good) d.good.consistent d.tri a i f in omega arith)
 
 -- ---- the flag true: a face with a rim edge gets two points on it
-record Edged (m₀ m : Links) (f : ℕ) : Type 0 where
-  pub spread : Spread m₀ m (Two m₀) f
-  pub nv_is : m.nv ≡ m₀.nv + f + number_of f (rimmed m₀)
-  pub ne_is : m.ne ≡ m₀.ne + 3 * f + number_of f (rimmed m₀)
 
 module _ (m₀ m : Links) (g₀ : Good m₀) (tri : Triangular (mesh m₀)) (f : ℕ) (f_lt : f < m₀.nf) (s : Edged m₀ m f)
     (v : m₀.nv + m₀.nf + number_of m₀.nf (rimmed m₀) ≤ 1048576) (e : m₀.ne + 3 * m₀.nf + number_of m₀.nf (rimmed m₀) ≤ 1048576) (h : 3 * m₀.nf ≤ 1048576) where

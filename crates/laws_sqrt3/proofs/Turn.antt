@@ -17,6 +17,7 @@ use Rattle.laws_mesh.proofs.Loops.{good-shape}
 use Rattle.laws_mesh.proofs.Swap.{Swap}
 use Rattle.laws_mesh.proofs.SwapLaws.{ccw-end, Swappable, swap_ccw-is, swap_ccw-good}
 use Rattle.laws_triangulate.proofs.Triangular.{Triangular, tri-back, tri-tip, tri-three}
+pub use Rattle.laws_sqrt3.proofs.TurnedRecord.{Turned}
 
 -- ---- a swap of two triangles, in any mesh of triangles
 module _ {m m' : Mesh} {h o : ℕ} (s : Shape m) (k : Consistent m) (T : Triangular m) (d : Swap m m' h o) where
@@ -95,21 +96,6 @@ unfolding swap_ccw
 swap-ne m e = refl
 
 -- ---- the fold
-
--- after e of the edges of m₀. R holds of whatever is on the rim. An old halfedge not yet turned (its edge is to come, or is on the rim) and its partner end at old vertices,
--- and what follows it ends at a new one, another than on its other side
-pub record Turned (m₀ m : Links) (Q R : ℕ → Type 0) (e : ℕ) : Type 0 where
-  pub good : Good m
-  pub tri : Triangular (mesh m)
-  pub ne-lo : m₀.ne ≤ m.ne
-  pub inner : (t : ℕ) → t < 2 * m.ne → face m t ≡ NONE → R t
-  pub rim : (t : ℕ) → t < 2 * m₀.ne → face m₀ t ≡ NONE → face m t ≡ NONE
-  pub faced : (t : ℕ) → t < 2 * m₀.ne → face m₀ t ≢ NONE → face m t ≢ NONE
-  pub heads : (t : ℕ) → t < 2 * m₀.ne → Q t → (2 * e ≤ t) ⊎ ((face m₀ t ≡ NONE) ⊎ (face m₀ (partner t) ≡ NONE)) → head m t < m₀.nv
-  pub tips : (t : ℕ) → t < 2 * m₀.ne → Q t → (2 * e ≤ t) ⊎ ((face m₀ t ≡ NONE) ⊎ (face m₀ (partner t) ≡ NONE)) → face m₀ t ≢ NONE
-      → m₀.nv ≤ head m (next m t)
-  pub apart : (t : ℕ) → t < 2 * m₀.ne → Q t → 2 * e ≤ t → face m₀ t ≢ NONE → face m₀ (partner t) ≢ NONE
-      → head m (next m t) ≢ head m (next m (partner t))
 
 module _ (m₀ m : Links) (Q R : ℕ → Type 0) (e : ℕ) (sym-Q : (t : ℕ) → Q t → Q (partner t))
     (Q-two : (t : ℕ) → t < 2 * m₀.ne → face m₀ t ≢ NONE → face m₀ (partner t) ≢ NONE → Q t)

@@ -1,4 +1,5 @@
 pub mod Cutting
 pub mod Corner
 pub mod Triangular
+pub mod TrimmedRecord
 pub mod Triangulate

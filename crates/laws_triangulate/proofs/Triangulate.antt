@@ -20,6 +20,7 @@ use Rattle.laws_mesh.proofs.Loops.{loop-length, face-three}
 use Rattle.laws_mesh.proofs.Corners.{sum-all, rims-corners}
 use Rattle.laws_mesh.proofs.Sides.{bears-length, from-closes, tally-is}
 use Rattle.laws_triangulate.proofs.Corner.{Cornered, corner}
+pub use Rattle.laws_triangulate.proofs.TrimmedRecord.{Trimmed}
 
 -- ---- one face
 
@@ -118,16 +119,6 @@ tri-face m f g u e h =
     cuts m f (length (loop m (start m f))) (length (loop m (start m f)) - 3) u (cutted-none m f (length (loop m (start m f))) g (bears-length m g f u)) (omega arith) e h
 
 -- ---- all faces
-
--- after the first f faces of m₀
-pub record Trimmed (m₀ m : Links) (f : ℕ) : Type 0 where
-  pub good : Good m
-  pub nv_is : m.nv ≡ m₀.nv
-  pub ne_is : m.ne + 3 * f ≡ m₀.ne + sum f (λ i. length (loop m₀ (start m₀ i)))
-  pub nf_is : m.nf + 3 * f ≡ m₀.nf + sum f (λ i. length (loop m₀ (start m₀ i)))
-  pub nf-lo : m₀.nf ≤ m.nf
-  pub lens : (i t : ℕ) → f ≤ i → i < m₀.nf → t < 2 * m.ne → face m t ≡ i → Length (next m) t (length (loop m₀ (start m₀ i)))
-  pub tri : (t : ℕ) → t < 2 * m.ne → face m t ≢ NONE → (face m t < f) ⊎ (m₀.nf ≤ face m t) → next m (next m (next m t)) ≡ t
 
 sum-three : (l : ℕ → ℕ) (f n : ℕ) → f ≤ n → ((i : ℕ) → i < n → 3 ≤ l i) → sum f l + 3 * n ≤ sum n l + 3 * f
 unfolding sum
