@@ -4,7 +4,7 @@ use mathlib.Core.Logic.{◌⊎◌, inl, inr, ⊎_elim}
 use mathlib.Core.Bool.{Bool, true, false, not, ◌&&◌, ◌||◌}
 use Prim.Native.Nat.{ℕ, zero, suc, ◌≤◌, ◌<◌}
 use native.Mathlib.Omega.{arith}
-use borrow.Author.Tests.{ltb-true, ltb-false, leb-true, leb-false, eqb-true, eqb-false}
+use borrow.Author.Tests.{ltb-true, ltb-false, leb-true, leb-false, eqb-true, eqb-false, not-false}
 use lib.Dec.{eqb, ltb, leb}
 use Rattle.scope.specs.Lists.{if, all}
 use Rattle.laws_mesh.proofs.Cycle.{split}
@@ -21,6 +21,9 @@ denied n = record { so = λ e. never (sym e); not_so = λ e. n }
 
 pub is-so : {b : Bool} {P : Type 0} → Tells b P → b ≡ true → P
 is-so t e = t.so e
+
+pub is-so-not : {b : Bool} {P : Type 0} → Tells b P → not b ≡ false → P
+is-so-not {b} t e = t.so (not-false b e)
 
 pub is-not : {b : Bool} {P : Type 0} → Tells b P → b ≡ false → P → ⊥
 is-not t e = t.not_so e

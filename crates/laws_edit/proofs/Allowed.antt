@@ -21,7 +21,7 @@ use Rattle.laws_mesh.specs.Mesh.{Mesh, Shape, Consistent}
 use Rattle.laws_mesh.specs.Of.{mesh_of, Sized, Marked}
 use Rattle.laws_mesh.proofs.Rules.{consistent-rules}
 use Rattle.laws_mesh.proofs.Shapes.{recarry, shape-wide}
-use Rattle.laws_check.proofs.Tells.{never, is-so, t-and, t-le}
+use Rattle.laws_check.proofs.Tells.{never, is-so-not, t-and, t-le}
 use Rattle.laws_check.proofs.Theorems.{none-consistent}
 use Rattle.laws_edit.specs.Kept.{Laid, marks_after, Kept}
 use Rattle.laws_edit.specs.Breaks.{Breaks, Guards}
@@ -85,7 +85,7 @@ pub record Room (c : Counts) (s : Sizes) : Type 0 where
 pub fits-room : (c : Counts) (s : Sizes) → not (fits c s) ≡ false → Room c s
 unfolding fits
 fits-room c s e =
-    let ((((((((a, b), d), f), g), h), v), w), x) = is-so (t-and (t-and (t-and (t-and (t-and (t-and (t-and (t-and (t-le c.v s.outs) (t-le (8 * c.e) s.edges)) (t-le c.f s.faces))
+    let ((((((((a, b), d), f), g), h), v), w), x) = is-so-not (t-and (t-and (t-and (t-and (t-and (t-and (t-and (t-and (t-le c.v s.outs) (t-le (8 * c.e) s.edges)) (t-le c.f s.faces))
     (t-le c.v s.vmarks)) (t-le c.e s.emarks)) (t-le c.f s.fmarks)) (t-le c.v 1048576)) (t-le c.e 1048576)) (t-le c.f 1048576)) e in
     record { few = record { few_v = v; few_e = w; few_f = x }; for-outs = a; for-edges = b; for-faces = d; for-vmarks = f; for-emarks = g; for-fmarks = h }
 

@@ -26,7 +26,7 @@ use Rattle.laws_mesh.proofs.Shapes.{shape_of, shape-wide, size_of}
 use Rattle.laws_mesh.proofs.Carriers.{OneMore, Unmarked, unmarked-more, unmarked-again}
 use Rattle.laws_mesh.proofs.InsertLaws.{face-outs, hole-outs_long, face-starts-new, face-starts-again, hole-starts-new, hole-starts-again}
 use Rattle.laws_check.specs.Tells.{Tells}
-use Rattle.laws_check.proofs.Tells.{is-so, t-and, t-or, t_not, t-eq, t-lt}
+use Rattle.laws_check.proofs.Tells.{is-so-not, t-and, t-or, t_not, t-eq, t-lt}
 use Rattle.laws_check.proofs.Rounds.{t-has-round}
 use Rattle.laws_check.proofs.Tests.{t-is_h, t-is_f}
 use Rattle.laws_edit.specs.Kept.{Kept, Keeps}
@@ -60,7 +60,7 @@ module _ (m : Links) (k : Marks) (p n g : ℕ) (z : Sized m) (l : Marked m k) (c
       → not (has n (loop m p)) ≡ false → Admitted m k p n g
   admitted bad same living away =
       let (handles, range) = neither (not (is_h m k p && is_h m k n)) _ bad in
-      let (pi, ni) = is-so (t-and (t-is_h m k p) (t-is_h m k n)) handles in
+      let (pi, ni) = is-so-not (t-and (t-is_h m k p) (t-is_h m k n)) handles in
       let (apart, follows) = neither (eqb p n) _ same in
       record {
         able = record {
@@ -71,7 +71,7 @@ module _ (m : Links) (k : Marks) (p n g : ℕ) (z : Sized m) (l : Marked m k) (c
           n-in = ni;
           apart = (t-eq p n).not_so apart;
           no_step = (t-eq (next m p) n).not_so follows;
-          one_loop = is-so (t-on_loop m k p n z c pi) away;
+          one_loop = is-so-not (t-on_loop m k p n z c pi) away;
         };
         free = record {
           in_range = λ q. in_range range q;
@@ -298,7 +298,7 @@ nine-apart p n g m k z c e r =
     let (bad, e1) = let-past (not (is_h m k p && is_h m k n) || (not (eqb g NONE) && not (ltb g m.nf))) _ _ HalfedgesNotInTheSameLoop (λ q. omega arith) e in
     let (same, e2) = let-past (eqb p n || eqb (next m p) n) _ _ HalfedgesNotInTheSameLoop (λ q. omega arith) e1 in
     let (handles, range) = neither (not (is_h m k p && is_h m k n)) _ bad in
-    let (pi, ni) = is-so (t-and (t-is_h m k p) (t-is_h m k n)) handles in
+    let (pi, ni) = is-so-not (t-and (t-is_h m k p) (t-is_h m k n)) handles in
     let one = loop-face (shape_of m k z.few_e z.few_f) c.core pi r in
     let e3 = passed-by (not (eqb (face m p) (face m n))) HalfedgesNotInTheSameLoop _ (told-not (t_not (t-eq (face m p) (face m n))) (λ q. q (sym one))) in
     let (living, e4) = let-past (not (eqb g NONE) && is_f m k g) _ _ HalfedgesNotInTheSameLoop (λ q. omega arith) (sym e3 ∙ e2) in

@@ -12,7 +12,7 @@ use Rattle.laws_mesh.proofs.Shapes.{shape_of, size_of}
 use Rattle.laws_mesh.proofs.Count.{Length}
 use Rattle.laws_mesh.proofs.SplitLaws.{split-marked-sized, split-marked-consistent}
 use Rattle.laws_mesh.proofs.SplitFaceLaws.{loop-long, split_face-marked-counts, split_face-marked-sized, split_face-marked-consistent}
-use Rattle.laws_check.proofs.Tells.{is-so, t-and, t-eq}
+use Rattle.laws_check.proofs.Tells.{is-so-not, t-and, t-eq}
 use Rattle.laws_check.proofs.Tests.{t-is_v, t-is_h, t-is_f}
 use Rattle.laws_edit.specs.Kept.{Keeps}
 use Rattle.laws_edit.proofs.Allowed.{let_by, let-last, allowed, after_kept, counts_are}
@@ -22,8 +22,8 @@ unfolding split_edge_edit split_edge counts_of
 split_edge-keeps h v m k own l e =
     let a = allowed (split_edge_edit h v) m k own l e in
     let (handles, e1) = let_by (not (is_h m k h && is_v m k v)) _ _ a.undenied in
-    let (hi, vi) = is-so (t-and (t-is_h m k h) (t-is_v m k v)) handles in
-    let free = is-so (t-eq (out m v) NONE) (let-last (not (isolated m v)) _ e1) in
+    let (hi, vi) = is-so-not (t-and (t-is_h m k h) (t-is_v m k v)) handles in
+    let free = is-so-not (t-eq (out m v) NONE) (let-last (not (isolated m v)) _ e1) in
     let lo = a.long in
     after_kept (split_edge_edit h v) m k
     (split-marked-sized m k h v a.sized a.long a.consistent hi vi free a.room.few_e)
@@ -36,8 +36,8 @@ unfolding split_face_edit counts_of
 split_face-keeps f v m k own l e =
     let a = allowed (split_face_edit f v) m k own l e in
     let (handles, e1) = let_by (not (is_f m k f && is_v m k v)) _ _ a.undenied in
-    let (fi, vi) = is-so (t-and (t-is_f m k f) (t-is_v m k v)) handles in
-    let free = is-so (t-eq (out m v) NONE) (let-last (not (isolated m v)) _ e1) in
+    let (fi, vi) = is-so-not (t-and (t-is_f m k f) (t-is_v m k v)) handles in
+    let free = is-so-not (t-eq (out m v) NONE) (let-last (not (isolated m v)) _ e1) in
     let lo = a.long in
     let z = a.sized in
     let c = a.consistent in

@@ -18,7 +18,7 @@ use Rattle.laws_mesh.proofs.Facts.{partner-even, perm-next}
 use Rattle.laws_mesh.proofs.Shapes.{shape_of, size_of}
 use Rattle.laws_mesh.proofs.SwapLaws.{Swappable}
 use Rattle.laws_check.specs.Tells.{Tells}
-use Rattle.laws_check.proofs.Tells.{is-so, tells-map, t-and, t-eq, t-lt}
+use Rattle.laws_check.proofs.Tells.{is-so-not, tells-map, t-and, t-eq, t-lt}
 use Rattle.laws_check.proofs.Rounds.{map-run, Met, t-has-run, round-cycle}
 use Rattle.laws_edit.proofs.Allowed.{let_by, let-last, neither}
 
@@ -45,7 +45,7 @@ t-on_loop-head m k h x z c i =
 pub edge_in : (m : Links) (k : Marks) (e : ℕ) → not (is_e m k e) ≡ false → (mesh_of m k).is_h (2 * e)
 unfolding is_e
 edge_in m k e q =
-    let (l, u) = is-so (t-and (t-lt e m.ne) (t-eq (get_or k.es e 0) 0)) q in
+    let (l, u) = is-so-not (t-and (t-lt e m.ne) (t-eq (get_or k.es e 0) 0)) q in
     let h : 2 * e / 2 ≡ e = omega arith in
     (omega arith, ap (λ (i : ℕ). get_or k.es i 0) h ∙ u)
 
