@@ -8,7 +8,7 @@ use mathlib.Core.Logic.{◌⊎◌, inl, inr, ◌≢◌}
 use Prim.Native.Nat.{ℕ}
 use Rattle.laws_mesh.specs.Reach.{Reach, here}
 use Rattle.scope.specs.Links.{NONE, partner}
-use Rattle.laws_mesh.specs.Mesh.{Mesh, tail, turn, Shape, Core, Three, Consistent}
+use Rattle.laws_mesh.specs.Mesh.{Mesh, tail, turn, Shape, Core, Three}
 use Rattle.laws_mesh.proofs.Cycle.{split, Perm, Cut, reach-sym, reach-trans, reach-one, reach-next, reach-sim, reach-ind}
 use Rattle.laws_mesh.proofs.Facts.{partner-partner, turn_in, tail-in, heads-apart, next-inj, next-ne, perm-next, pair-loop}
 

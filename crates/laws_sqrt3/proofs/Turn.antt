@@ -10,7 +10,7 @@ use Rattle.scope.specs.Links.{Links, NONE, partner, face, head, next, prev, rim}
 use Rattle.scope.specs.Edits.{swap_ccw}
 use Rattle.scope.specs.Passes.{swap_inner}
 use Rattle.laws_mesh.specs.Mesh.{Mesh, Shape, Core, Consistent}
-use Rattle.laws_mesh.specs.Of.{mesh, Good}
+use Rattle.laws_mesh.specs.Of.{mesh}
 use Rattle.laws_mesh.proofs.Cycle.{split}
 use Rattle.laws_mesh.proofs.Facts.{partner-partner, partner-even, partner-odd, partner-lt, head-prev, next-inj}
 use Rattle.laws_mesh.proofs.Loops.{good-shape}

@@ -1,7 +1,7 @@
 -- The second half of a sqrt3 pass: what holds after some of the edges. Assumes nothing.
 use mathlib.Core.Path.{◌≡◌}
 use mathlib.Core.Logic.{◌⊎◌, ◌≢◌}
-use Prim.Native.Nat.{ℕ, ◌+◌, ◌*◌, ◌≤◌, ◌<◌}
+use Prim.Native.Nat.{ℕ, ◌*◌, ◌≤◌, ◌<◌}
 use Rattle.scope.specs.Links.{Links, NONE, partner, face, head, next}
 use Rattle.laws_mesh.specs.Of.{mesh, Good}
 use Rattle.laws_triangulate.proofs.Triangular.{Triangular}
