@@ -2,7 +2,7 @@
 """Writes the theorems of crates/scope_cases: K1 to K12 of document 01, and recorded cases of the Rust, both by computation on the definitions of crates/scope.
 
     tools/theorems.py            from the repository's top; reads oracle/vectors, writes crates/scope_cases/specs/{Pieces,Schemes,Edits,Checks}.antt
-                              and, a few of the same, crates/scope/proofs/Witness.antt, with their words in Recorded.antt beside it; then rt fmt
+                              and, a few of the same, crates/scope/proofs/Witness.antt, with their words in Recorded.antt beside it; then rt fmt in both crates
 """
 import glob, re, sys
 sys.path.insert(0, "oracle/py")
@@ -59,6 +59,25 @@ def uses(where="specs"):
         if opened or shown: lines.append("use Rattle.scope.specs.%s.{%s}" % (mod, ", ".join(shown + opened)))
         names += opened
     return LIBRARY[where] + DECLARED + "\n".join(lines) + "\n", OPERATIONS.replace(",", "") + " Ieee.round " + " ".join(names)
+
+
+def tidied(text):
+    """The text with those imports alone that its own lines name, as rt tidy leaves it (which keeps lib.Ieee's Float)."""
+    lines = text.split("\n")
+    own = "\n".join(l.split("--")[0] for l in lines if not l.startswith("use "))
+    own = re.sub(r"(?m)(^ *|[{;] *)[^\s{};]+ =(?= )", r"\1", own)      # fields and left sides
+    named = set(re.findall(r"(?<![.\w])[^\s(){};:,.]+", own))
+    used = lambda n: n in named or n.startswith("◌") and n.strip("◌") in named
+    out = []
+    for l in lines:
+        m = re.fullmatch(r"(use .*\.)\{(.*)\}", l)
+        if m:
+            names = [n for n in m[2].split(", ") if used(n) or m[1] + n == "use lib.Ieee.Float"]
+            if not names: continue
+            l = "%s{%s}" % (m[1], ", ".join(names))
+        elif l.startswith("use ") and not used(l.split()[-1]): continue
+        out.append(l)
+    return "\n".join(out)
 
 
 # ---- lists as antt writes them
@@ -441,5 +460,5 @@ def witness():
 
 
 for path, text in ((OUT + "Pieces", pieces()), (OUT + "Schemes", schemes()), (OUT + "Edits", edits()), (OUT + "Checks", checks()), ("crates/scope/proofs/Witness", witness()), ("crates/scope/proofs/Recorded", vocabulary())):
-    open(path + ".antt", "w").write(text)
+    open(path + ".antt", "w").write(tidied(text))
     print("%s: %d theorems" % (path, len(re.findall(r"= refl$", text, re.M))))
