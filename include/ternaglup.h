@@ -1,4 +1,4 @@
-/* Ternaglup for C: what the static library target/staticlib/libexports.a offers (`rt staticlib exports` proves and writes it).
+/* Ternaglup for C: what the static library target/staticlib/libexports.a offers (`tests/archive.sh` proves and writes it).
  *
  * A mesh of v vertices, e edges and f faces lies in slices; each is handed over as a pointer and the number of its elements.
  *

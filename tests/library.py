@@ -41,7 +41,7 @@ def driver(name="driver"):
     program = os.path.join(build, name)
     archive = os.path.join(TOP, "target", "staticlib", "libexports.a")
     if not os.path.exists(archive):
-        sys.exit("no static library; `rt staticlib exports` writes it")
+        sys.exit("no static library; `tests/archive.sh` writes it")
     subprocess.run([os.environ.get("CC", "cc"), "-std=c99", "-D_POSIX_C_SOURCE=199309L", "-O2", "-Wall", "-Wextra", "-I", os.path.join(TOP, "include"),
                     os.path.join(TESTS, name + ".c"), archive, "-o", program], check=True)
     return program

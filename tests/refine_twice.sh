@@ -1,9 +1,9 @@
 #!/bin/sh
 # refine_twice.sh: the built program on files. Two passes at once and one and one give the same bytes, with the words of the first run's card;
 # a refusal and a word that is not understood write nothing to standard output; the largest result is made on the default stack.
-# Run in the repository's folder after `rt check refine`. The last line is 'N tests, M failed'; the status is 0 exactly if M is 0.
+# Run in the repository's folder after `rt run` in crates/refine. The last line is 'N tests, M failed'; the status is 0 exactly if M is 0.
 ulimit -s 8192
-refine=target/bin/refine
+refine=crates/refine/out/refine
 cages=crates/runs_refine/data
 dir=$(mktemp -d) || exit 2
 trap 'rm -r "$dir"' EXIT

@@ -1,7 +1,7 @@
 #!/usr/bin/env python3
 """meshfiles.py: writes the mesh files of crates/counter/stdin, crates/runs_counter/data and crates/runs_refine/data from the oracle's generators,
 crates/runs_counter_long/stdin, crates/runs_check/stdin and stdout from the recorded check cases, crates/refine/stdin, args and stdout from a recorded
-Catmull-Clark case, and the cube's file as crates/file_laws/specs/Cube.antt. Run in the repository's folder."""
+Catmull-Clark case, and the cube's file as crates/file_laws/specs/Cube.antt. Run in the repository's folder, then rt fmt in crates/file_laws."""
 import os, random, struct, sys
 sys.path.insert(0, os.path.join('oracle', 'py'))
 import cases, gen, mesh
@@ -57,11 +57,10 @@ def runs_check():
 
 
 CUBE = '''-- The cube's file (document 01, section 5: "a cube file of 722 bytes"), byte by byte: crates/counter/stdin. Written by tools/meshfiles.py. Assumes nothing.
-use Prim.Native.Nat.{ℕ}
-use mathlib.Core.List.{List, [], _∷_}
+use Rattle.std.specs.Prelude.{ℕ, List, [], ◌∷◌}
 
-abbrev pub cubeFile : List ℕ
-cubeFile =
+abbrev pub cube_file : List ℕ
+cube_file =
 %s
     []
 '''

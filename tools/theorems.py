@@ -2,7 +2,7 @@
 """Writes the theorems of crates/scope_cases: K1 to K12 of document 01, and recorded cases of the Rust, both by computation on the definitions of crates/scope.
 
     tools/theorems.py            from the repository's top; reads oracle/vectors, writes crates/scope_cases/specs/{Pieces,Schemes,Edits,Checks}.antt
-                              and, a few of the same, crates/scope/proofs/Witness.antt, with their words in Recorded.antt beside it; then rt fmt
+                              and, a few of the same, crates/scope/proofs/Witness.antt, with their words in Recorded.antt beside it; then rt fmt in both crates
 """
 import glob, re, sys
 sys.path.insert(0, "oracle/py")
@@ -12,12 +12,42 @@ import gen
 
 SPECS = "crates/scope/specs/"
 OUT = "crates/scope_cases/specs/"
-LOCAL = "Rattle·scope·specs.specs."      # scope's definitions as its own files name them
 LIMIT_EDGES = 30        # a done case is taken where its result has at most so many edges
 
 
 # ---- what a theorem by computation has to open: every definition of scope, and the arithmetic of floats
-def uses(scope="Rattle·scope.specs."):
+OPERATIONS = "of_int, of_bits, add, sub, mul, div"
+# the library's words: as specs/ import them, and as proofs/ do
+LIBRARY = {"specs": """use Rattle.std.specs.Prelude.{◌≡◌, refl, Bool, true, false, List, [], ◌∷◌, ◌++◌, map, ℕ, ◌+◌, ◌*◌, ℤ, pos, negsuc, length, replicate, Float}
+use Rattle.std.proofs.Math.Option.{Option, none, some}
+use Rattle.std.specs.Float.{binary64, nan}
+use Rattle.std.specs.Float.Ieee.{%s}
+use Rattle.std.specs.Float.Ieee as Ieee
+""" % OPERATIONS, "proofs": """use mathlib.Core.Path.{◌≡◌, refl}
+use mathlib.Core.Bool.{Bool, true, false}
+use mathlib.Core.List.{List, [], ◌∷◌, ◌++◌, map}
+use mathlib.Core.Option.{Option, none, some}
+use Prim.Native.Nat.{ℕ, ◌+◌, ◌*◌}
+use lib.IntN.{ℤ, pos, negsuc}
+use lib.ListN.{length, replicate}
+use lib.Ieee.{Float, binary64, nan, %s}
+use lib.Ieee as Ieee
+""" % OPERATIONS}
+DECLARED = """use Rattle.scope.specs.declared.records.Point.{Point}
+use Rattle.scope.specs.declared.records.Counts.{Counts}
+use Rattle.scope.specs.declared.answers.Place.{Place}
+use Rattle.scope.specs.declared.answers.Place.TheVariants.{AtVertex, AtHalfedge, AtEdge, AtFace}
+use Rattle.scope.specs.declared.answers.Fault.{Fault}
+use Rattle.scope.specs.declared.answers.Refusal.{Refusal}
+use Rattle.scope.specs.declared.answers.Refusal.TheVariants.{TooManyPasses, ShortSlice, NotConsistent, MarkedDeleted, NoRoom, NoWeight, BadHandle, CannotInsertEdge, HalfedgesNotInTheSameLoop, NotDeletedFace, ComplexVertex, CannotSwapBoundaryEdge, WouldBreak}
+use Rattle.scope.specs.declared.answers.Subdivided.{Subdivided}
+use Rattle.scope.specs.declared.answers.Subdivided.TheVariants.{Done, Refused}
+use Rattle.scope.specs.declared.answers.Edited.{Edited}
+use Rattle.scope.specs.declared.answers.Edited.TheVariants.{Changed, Unchanged}
+"""
+
+
+def uses(where="specs"):
     lines, names = [], []
     for f in sorted(glob.glob(SPECS + "*.antt")):
         mod = f[len(SPECS):-5]
@@ -25,38 +55,36 @@ def uses(scope="Rattle·scope.specs."):
         opened = re.findall(r"^ *unfoldable pub (\S+) :", text, re.M)
         shown = [n for n in ("Given", "Buffers", "Slices", "Own", "Sizes", "Outcome", "EditOutcome", "Scheme", "Edit") if re.search(r"^pub record %s\b" % n, text, re.M)]
         shown += [n for n in ("NONE",) if re.search(r"^abbrev pub %s :" % n, text, re.M)]
-        shown += ["pointAt"] if mod == "Points" else []
-        if opened or shown: lines.append("use Rattle·scope.specs.%s.{%s}" % (mod, ", ".join(shown + opened)))
+        shown += ["point_at"] if mod == "Points" else []
+        if opened or shown: lines.append("use Rattle.scope.specs.%s.{%s}" % (mod, ", ".join(shown + opened)))
         names += opened
-    head = """use mathlib.Core.Path.{_≡_, refl}
-use mathlib.Core.Bool.{Bool, true, false}
-use mathlib.Core.List.{List, [], _∷_, _++_, map}
-use mathlib.Core.Option.{Option, none, some}
-use Prim.Native.Nat.{ℕ, _+_, _*_}
-use lib.IntN.{ℤ, pos, negsuc}
-use lib.ListN.{length, replicate}
-use lib.Ieee.{Float, binary64, nan, ofInt, ofBits, add, sub, mul, div}
-use lib.Ieee as Ieee
-use Rattle·scope.specs.declared.records.Point.{Point}
-use Rattle·scope.specs.declared.records.Counts.{Counts}
-use Rattle·scope.specs.declared.answers.Place.{Place}
-use Rattle·scope.specs.declared.answers.Place.the-variants.{AtVertex, AtHalfedge, AtEdge, AtFace}
-use Rattle·scope.specs.declared.answers.Fault.{Fault}
-use Rattle·scope.specs.declared.answers.Refusal.{Refusal}
-use Rattle·scope.specs.declared.answers.Refusal.the-variants.{TooManyPasses, ShortSlice, NotConsistent, MarkedDeleted, NoRoom, NoWeight, BadHandle, CannotInsertEdge, HalfedgesNotInTheSameLoop, NotDeletedFace, ComplexVertex, CannotSwapBoundaryEdge, WouldBreak}
-use Rattle·scope.specs.declared.answers.Subdivided.{Subdivided}
-use Rattle·scope.specs.declared.answers.Subdivided.the-variants.{Done, Refused}
-use Rattle·scope.specs.declared.answers.Edited.{Edited}
-use Rattle·scope.specs.declared.answers.Edited.the-variants.{Changed, Unchanged}
-"""
-    return (head + "\n".join(lines) + "\n").replace("Rattle·scope.specs.", scope), "ofInt ofBits add sub mul div Ieee.round " + " ".join(names)
+    return LIBRARY[where] + DECLARED + "\n".join(lines) + "\n", OPERATIONS.replace(",", "") + " Ieee.round " + " ".join(names)
+
+
+def tidied(text):
+    """The text with those imports alone that its own lines name, as rt tidy leaves it (which keeps lib.Ieee's Float)."""
+    lines = text.split("\n")
+    own = "\n".join(l.split("--")[0] for l in lines if not l.startswith("use "))
+    own = re.sub(r"(?m)(^ *|[{;] *)[^\s{};]+ =(?= )", r"\1", own)      # fields and left sides
+    named = set(re.findall(r"(?<![.\w])[^\s(){};:,.]+", own))
+    used = lambda n: n in named or n.startswith("◌") and n.strip("◌") in named
+    out = []
+    for l in lines:
+        m = re.fullmatch(r"(use .*\.)\{(.*)\}", l)
+        if m:
+            names = [n for n in m[2].split(", ") if used(n) or m[1] + n == "use lib.Ieee.Float"]
+            if not names: continue
+            l = "%s{%s}" % (m[1], ", ".join(names))
+        elif l.startswith("use ") and not used(l.split()[-1]): continue
+        out.append(l)
+    return "\n".join(out)
 
 
 # ---- lists as antt writes them
 def word(x): return "NONE" if x == NONE else str(x)
 def ints(xs): return "".join("%s ∷ " % word(x) for x in xs) + "[]"
 def rows(xs, n): return "(" + "".join("\n    " + "".join("%s ∷ " % word(x) for x in xs[i:i + n]) for i in range(0, len(xs), n)) + "\n    [])"
-def coordinate(b): return "nan" if b & 0x7fffffffffffffff > 0x7ff0000000000000 else "ofBits binary64 %d" % b
+def coordinate(b): return "nan" if b & 0x7fffffffffffffff > 0x7ff0000000000000 else "of_bits binary64 %d" % b
 def coordinates(bs): return "".join(coordinate(b) + " ∷ " for b in bs) + "[]"
 def signed(n): return "pos %d" % n if n >= 0 else "negsuc %d" % (-n - 1)
 def marks(m): return m.marks[:m.V], m.marks[m.V:m.V + m.E], m.marks[m.V + m.E:]
@@ -76,30 +104,30 @@ mesh v e f outs edges faces vm em fm ps = record {
 }
 """
 
-VOCABULARY = "mesh", "zero", "seven", "all-of", "lent", "zeros", "done", "refused", "refuses", "own", "gives", "wrong"
+VOCABULARY = "mesh", "zero", "seven", "all_of", "lent", "zeros", "done", "refused", "refuses", "own", "gives", "wrong"
 
 
 def vocabulary():
-    head, opened = uses(LOCAL)
+    head, opened = uses("proofs")
     return """-- The words in which recorded cases are put: meshes, lent slices that hold sevens, what a call leaves. Written by tools/theorems.py. Assumes nothing.
 """ + head + MESH + LENT + OUTCOMES + OWN + WRONG
 
 
-def words(prefix):
-    return "use %sRecorded.{%s}\n" % (prefix, ", ".join(VOCABULARY))
+def words():
+    return "use Rattle.scope.proofs.Recorded.{%s}\n" % ", ".join(VOCABULARY)
 
 
 # slices that hold sevens, so that what is not written shows
 LENT = """
 abbrev pub zero : Float
-zero = ofInt binary64 (pos 0)
+zero = of_int binary64 (pos 0)
 
 abbrev pub seven : Float
-seven = ofInt binary64 (pos 7)
+seven = of_int binary64 (pos 7)
 
 -- slices for v vertices, e edges and f faces and three words more each, and w numbers of work, all of them x or y
-abbrev pub all-of : ℕ → Float → ℕ → ℕ → ℕ → ℕ → Buffers
-all-of x y v e f w = record {
+abbrev pub all_of : ℕ → Float → ℕ → ℕ → ℕ → ℕ → Buffers
+all_of x y v e f w = record {
   result = record {
     outs = replicate (v + 3) x;
     edges = replicate (8 * e + 3) x;
@@ -114,7 +142,7 @@ all-of x y v e f w = record {
 
 -- what is lent holds sevens
 abbrev pub lent : ℕ → ℕ → ℕ → ℕ → Buffers
-lent = all-of 7 seven
+lent = all_of 7 seven
 """
 
 
@@ -142,13 +170,13 @@ def pieces():
               ("wheel", "a hub with three spokes; vertex %d is (0,0,0) and on the rim, its rim neighbours are (27,0,0) and (0,27,0)" % k12, wheel, wheel_points),
               ("nothing", "no elements at all", Mesh(), [])]
     head, opened = uses()
-    t = "-- K1 to K12 (document 01, section 6), proved in one table under one statement about whole calls. Written by tools/theorems.py. Assumes nothing.\n" + head + "use Rattle·scope.proofs.Recorded.{lent}\n"
+    t = "-- K1 to K12 (document 01, section 6), proved in one table under one statement about whole calls. Written by tools/theorems.py. Assumes nothing.\n" + head + "use Rattle.scope.proofs.Recorded.{lent}\n"
     t += """
 abbrev mesh : ℕ → ℕ → ℕ → List ℕ → List ℕ → List ℕ → List ℤ → Given
 mesh v e f outs edges faces ps = record {
   counts = record { v = v; e = e; f = f };
   slices = record { outs = outs; edges = edges; faces = faces; vmarks = replicate v 0; emarks = replicate e 0; fmarks = replicate f 0 };
-  points = map (ofInt binary64) ps;
+  points = map (of_int binary64) ps;
 }
 """
     for n, what, m, ps in meshes:
@@ -165,10 +193,10 @@ pub data Row : Type 0 where
   puts : Point → Row
 
 abbrev said : Outcome → Row
-said o = says (o .answer)
+said o = says o.answer
 
-abbrev put-at : Outcome → ℕ → Row
-put-at o v = puts (pointAt (o .left .points) v)
+abbrev put_at : Outcome → ℕ → Row
+put_at o v = puts (point_at o.left.points v)
 
 abbrev counts : ℕ → ℕ → ℕ → Bool → Row
 counts v e f flag = says (Done (record { v = v; e = e; f = f }) flag)
@@ -177,33 +205,33 @@ abbrev at : Float → Float → Float → Row
 at x y z = puts (record { x = x; y = y; z = z })
 
 abbrev n : ℕ → Float
-n k = ofInt binary64 (pos k)
+n k = of_int binary64 (pos k)
 
 -- three quarters, and 0.515625
-abbrev three-quarters : Float
-three-quarters = ofBits binary64 0x3fe8_0000_0000_0000
+abbrev three_quarters : Float
+three_quarters = of_bits binary64 0x3fe8_0000_0000_0000
 
 abbrev k11 : Float
-k11 = ofBits binary64 0x3fe0_8000_0000_0000
+k11 = of_bits binary64 0x3fe0_8000_0000_0000
 """
     table = [
         ("K1", "said (one catmull true cube)", "counts 26 48 24 true"),
-        ("K2", "said (one loop-scheme true cube)", "counts 26 72 48 true"),
+        ("K2", "said (one loop_scheme true cube)", "counts 26 72 48 true"),
         ("K3", "said (one sqrt3 false cube)", "counts 20 54 36 true"),
         ("K4", "said (one catmull true triangle)", "counts 7 9 3 true"),
         ("K5", "said (one sqrt3 true triangle)", "counts 4 6 3 true"),
         ("K6", "said (onward sqrt3 1 (one sqrt3 true triangle) (lent 10 18 9 600))", "counts 10 18 9 false"),
         ("K7", "said (one catmull true nothing)", "counts 0 0 0 true"),
-        ("K7", "said (one loop-scheme true nothing)", "counts 0 0 0 true"),
+        ("K7", "said (one loop_scheme true nothing)", "counts 0 0 0 true"),
         ("K7", "said (one sqrt3 false nothing)", "counts 0 0 0 true"),
-        ("K8", "put-at (one catmull true cube) %d" % (8 + k8), "at (n 0) three-quarters three-quarters"),
-        ("K9", "put-at (one catmull true square) 0", "at (n 1) (n 1) (n 0)"),
-        ("K10", "put-at (one loop-scheme true triangle) 0", "at (n 1) (n 1) (n 0)"),
-        ("K11", "put-at (one loop-scheme true octahedron) %d" % octa_names.index(0), "at k11 (n 0) (n 0)"),
-        ("K12", "put-at (one sqrt3 true wheel) %d" % k12, "at (n 4) (n 4) (n 0)"),
+        ("K8", "put_at (one catmull true cube) %d" % (8 + k8), "at (n 0) three_quarters three_quarters"),
+        ("K9", "put_at (one catmull true square) 0", "at (n 1) (n 1) (n 0)"),
+        ("K10", "put_at (one loop_scheme true triangle) 0", "at (n 1) (n 1) (n 0)"),
+        ("K11", "put_at (one loop_scheme true octahedron) %d" % octa_names.index(0), "at k11 (n 0) (n 0)"),
+        ("K12", "put_at (one sqrt3 true wheel) %d" % k12, "at (n 4) (n 4) (n 0)"),
     ]
     side = lambda i: "".join("    -- %s\n    %s ∷\n" % (r[0], r[i]) for r in table)
-    t += "\npub pieces :\n    _≡_ {A = List Row} (\n%s    []\n    ) (\n%s    []\n    )\nunfolding %s\npieces = refl\n" % (side(1), side(2), opened)
+    t += "\npub pieces :\n    ◌≡◌ {A = List Row} (\n%s    []\n    ) (\n%s    []\n    )\nunfolding %s\npieces = refl\n" % (side(1), side(2), opened)
     return t
 
 
@@ -234,7 +262,7 @@ def padded(m, over, sevens):
     return [tail(m.outs, v), tail(m.edges, e * 8), tail(m.faces, f), tail(k[0], v), tail(k[1], e), tail(k[2], f)]
 
 
-SCHEME = {"catmull": "catmull", "loop": "loop-scheme", "sqrt3": "sqrt3"}
+SCHEME = {"catmull": "catmull", "loop": "loop_scheme", "sqrt3": "sqrt3"}
 TRUTH = {"0": "false", "1": "true"}
 
 
@@ -283,12 +311,12 @@ def schemes():
     wanted = {k: n for k, n in wanted.items() if any(c[1] == k for c in cases)}
     return """-- Recorded cases of the three schemes in the Rust, by computation on whole calls: every link, mark and point bit, the next flag, what is lent beyond
 -- what is used, refusals with their places. Written by tools/theorems.py from oracle/vectors. Assumes nothing.
-""" + head + words("Rattle·scope.proofs.") + "\n" + "\n".join(take(cases, wanted))
+""" + head + words() + "\n" + "\n".join(take(cases, wanted))
 
 
 OUTCOMES = """
 abbrev pub zeros : ℕ → ℕ → ℕ → ℕ → Buffers
-zeros = all-of 0 zero
+zeros = all_of 0 zero
 
 abbrev pub three-more : List ℕ → List ℕ
 three-more l = l ++ replicate 3 0
@@ -296,19 +324,19 @@ three-more l = l ++ replicate 3 0
 -- the mesh with zeros after it, and w zeros of work
 abbrev pub done : Given → Bool → ℕ → Outcome
 done g flag w =
-    let s = g .slices in
+    let s = g.slices in
     record {
-      answer = Done (g .counts) flag;
+      answer = Done g.counts flag;
       left = record {
         result = record {
-          outs = three-more (s .outs);
-          edges = three-more (s .edges);
-          faces = three-more (s .faces);
-          vmarks = three-more (s .vmarks);
-          emarks = three-more (s .emarks);
-          fmarks = three-more (s .fmarks);
+          outs = three-more s.outs;
+          edges = three-more s.edges;
+          faces = three-more s.faces;
+          vmarks = three-more s.vmarks;
+          emarks = three-more s.emarks;
+          fmarks = three-more s.fmarks;
         };
-        points = g .points ++ replicate 3 zero;
+        points = g.points ++ replicate 3 zero;
         work = replicate w zero;
       };
     }
@@ -322,12 +350,12 @@ vast = record { outs = 1000000; edges = 8000000; faces = 1000000; vmarks = 10000
 
 abbrev pub refuses : Scheme → ℕ → Bool → Given → Option Refusal
 refuses S k flag g =
-    refusal S k flag (linksOf (g .counts) (g .slices)) (marksOf (g .counts) (g .slices)) (sizes (g .slices)) (length (g .points)) vast 3000000 18000000
+    refusal S k flag (links_of g.counts g.slices) (marks_of g.counts g.slices) (sizes g.slices) (length g.points) vast 3000000 18000000
 
 """
 
 
-EDIT = {"split_edge": "split-edge", "split_face": "split-face", "insert_edge": "insert-edge", "swap_ccw": "swap-ccw", "swap_cw": "swap-cw", "triangulate": "triangulate-all"}
+EDIT = {"split_edge": "split_edge_edit", "split_face": "split_face_edit", "insert_edge": "insert_edge_edit", "swap_ccw": "swap_ccw_edit", "swap_cw": "swap_cw_edit", "triangulate": "triangulate_all"}
 
 
 def edit_cases(opened):
@@ -352,7 +380,7 @@ def edits():
     cases = edit_cases(opened)
     return """-- Recorded cases of the edits in the Rust, by computation on whole calls: every link and mark, the value, what is lent beyond what is used, refusals.
 -- Written by tools/theorems.py from oracle/vectors. Assumes nothing.
-""" + head + words("Rattle·scope.proofs.") + "\n" + "\n".join(take(cases, {c[1]: 1 for c in cases}))
+""" + head + words() + "\n" + "\n".join(take(cases, {c[1]: 1 for c in cases}))
 
 
 OWN = """
@@ -380,19 +408,19 @@ def checks():
     head, opened = uses()
     cases = check_cases(opened)
     return """-- Recorded cases of the consistency check, by computation: the lowest broken rule and its first place. Written by tools/theorems.py from oracle/vectors. Assumes nothing.
-""" + head + words("Rattle·scope.proofs.") + "\n" + "\n".join(take(cases, {c[1]: 1 for c in cases}))
+""" + head + words() + "\n" + "\n".join(take(cases, {c[1]: 1 for c in cases}))
 
 
 WRONG = """
 abbrev pub wrong : Given → Option Fault
-wrong g = fault (linksOf (g .counts) (g .slices)) (marksOf (g .counts) (g .slices))
+wrong g = fault (links_of g.counts g.slices) (marks_of g.counts g.slices)
 
 """
 
 
 def room(opened):
     """One triangle: the room that one pass needs is enough, and one word less in any slice is not."""
-    need = {"catmull": (7, 9, 3, 42), "loop-scheme": (6, 9, 4, 42), "sqrt3": (4, 6, 3, 42)}
+    need = {"catmull": (7, 9, 3, 42), "loop_scheme": (6, 9, 4, 42), "sqrt3": (4, 6, 3, 42)}
     m = gen.from_faces(gen.ngon(3))
     t = """
 abbrev one-triangle : Given
@@ -401,14 +429,14 @@ one-triangle = mesh 3 3 1 (%s) (%s) (%s) (0 ∷ 0 ∷ 0 ∷ []) (0 ∷ 0 ∷ 0 �
 -- what one pass answers with so many words in outs, edges, faces, their marks, the points and the work
 abbrev with-room : Scheme → List ℕ → Option Refusal
 with-room S l =
-    let n : ℕ → ℕ = λ i. getD l i 0 in
+    let n : ℕ → ℕ = λ i. get_or l i 0 in
     let g = one-triangle in
-    refusal S 1 true (linksOf (g .counts) (g .slices)) (marksOf (g .counts) (g .slices)) (sizes (g .slices)) 9
+    refusal S 1 true (links_of g.counts g.slices) (marks_of g.counts g.slices) (sizes g.slices) 9
     (record { outs = n 0; edges = n 1; faces = n 2; vmarks = n 3; emarks = n 4; fmarks = n 5 }) (n 6) (n 7)
 
 -- exact room, and one word less in each slice
 pub rooms :
-    _≡_ {A = List (Option Refusal)} (
+    ◌≡◌ {A = List (Option Refusal)} (
 """ % (ints(m.outs), ints(m.edges), ints(m.faces))
     wanted = []
     for S, (v, e, f, w) in need.items():
@@ -421,16 +449,16 @@ pub rooms :
 
 
 def witness():
-    head, opened = uses(LOCAL)
+    head, opened = uses("proofs")
     cases = scheme_cases(opened) + edit_cases(opened) + check_cases(opened)
     pick = {k: 1 for k in [(s, f, 1, "rim") for s in SCHEME for f in ("true", "false")] + [("sqrt3", "true", 2, "rim"), ("catmull", "true", 1, "closed")]}
     pick.update({c[1]: 1 for c in cases if c[1][0] in EDIT and (c[1][1] == "0" or c[1][1] in ("9", "14"))})
     pick.update({("3", "1", "v"): 1, ("3", "2", "h"): 1, ("3", "4", "f"): 1, ("3", "8", "v"): 1})
     return """-- A few recorded cases of the Rust by computation, and the room that a pass asks for, beside the definitions themselves: a definition that is changed is refused here.
 -- Written by tools/theorems.py from oracle/vectors; crates/scope_cases has more. Assumes nothing.
-""" + head.replace("ListN.{length", "ListN.{getD, length") + words("Rattle·scope·proofs.proofs.") + "\n" + "\n".join(take(cases, {k: n for k, n in pick.items() if any(c[1] == k for c in cases)})) + room(opened)
+""" + head.replace("ListN.{length", "ListN.{get_or, length") + words() + "\n" + "\n".join(take(cases, {k: n for k, n in pick.items() if any(c[1] == k for c in cases)})) + room(opened)
 
 
 for path, text in ((OUT + "Pieces", pieces()), (OUT + "Schemes", schemes()), (OUT + "Edits", edits()), (OUT + "Checks", checks()), ("crates/scope/proofs/Witness", witness()), ("crates/scope/proofs/Recorded", vocabulary())):
-    open(path + ".antt", "w").write(text)
+    open(path + ".antt", "w").write(tidied(text))
     print("%s: %d theorems" % (path, len(re.findall(r"= refl$", text, re.M))))

@@ -1,6 +1,6 @@
 #!/bin/sh
 # Times the library's Catmull-Clark call against the Rust. Usage: bench/catmull/run.sh DIR     (DIR as for oracle/build.sh)
-# `rt staticlib exports` comes first.
+# `tests/archive.sh` comes first.
 set -eu
 here=$(cd "$(dirname "$0")" && pwd)
 ALUM_SRC=$(cd "${1:?usage: bench/catmull/run.sh DIR}" && pwd)

@@ -5,9 +5,8 @@ set -e
 here=$(cd "$(dirname "$0")" && pwd); top=$(cd "$here/../.." && pwd)
 copy=$(mktemp -d); trap 'rm -rf "$copy"' EXIT
 cp -r "$top/crates" "$top/crates.txt" "$copy/"
-mkdir -p "$copy/target"; [ -d "$top/target" ] && cp -r "$top/target/." "$copy/target/"
 cp -r "$here/timed" "$copy/crates/timed"
 find "$copy/crates/timed" -name '*.in' | while read -r f; do mv "$f" "${f%.in}"; done
-echo "timed: scope points_weights points_catmull points_triangles" >> "$copy/crates.txt"
-(cd "$copy" && rt staticlib timed)
-mkdir -p "$here/out"; cp "$copy/target/staticlib/libtimed.a" "$here/out/"
+echo "timed staticlib: scope points_weights points_catmull points_triangles" >> "$copy/crates.txt"
+(cd "$copy/crates/timed" && rt lib)
+mkdir -p "$here/out"; cp "$copy/crates/timed/out/libtimed.a" "$here/out/"
