@@ -1,7 +1,7 @@
 #!/usr/bin/env python3
 """Brings this repository's own definitions, fields and lemmas to today's spelling: words in snake case, facts in upper camel case.
 
-usage: tools/respell.py            once, at the top, after /opt/rattle/port/port.py
+usage: tools/respell.py            once, at the top, after the port/port.py of the kit
        tools/respell.py --list     prints what would be renamed, and names that fall together
 
 It reads the names that .antt files declare and turns whole words in .antt files, in the clauses and ghost lines of .rt files, in must-fail edits and between the backquotes of the pages.
