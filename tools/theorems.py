@@ -18,15 +18,14 @@ LIMIT_EDGES = 30        # a done case is taken where its result has at most so m
 # ---- what a theorem by computation has to open: every definition of scope, and the arithmetic of floats
 OPERATIONS = "of_int, of_bits, add, sub, mul, div"
 # the library's words: as specs/ import them, and as proofs/ do
-LIBRARY = {"specs": """use Rattle.std.specs.Prelude.{◌≡◌, refl, Bool, true, false, List, [], ◌∷◌, ◌++◌, map, ℕ, ◌+◌, ◌*◌, ℤ, pos, negsuc, length, replicate, Float}
-use Rattle.std.proofs.Math.Option.{Option, none, some}
+LIBRARY = {"specs": """use Rattle.std.specs.Prelude.{◌≡◌, refl, Bool, true, false, List, [], ◌∷◌, ◌++◌, map, ℕ, ◌+◌, ◌*◌, ℤ, pos, negsuc, length, replicate, Float, Option, None, Some, Ok, Err}
 use Rattle.std.specs.Float.{binary64, nan}
 use Rattle.std.specs.Float.Ieee.{%s}
 use Rattle.std.specs.Float.Ieee as Ieee
 """ % OPERATIONS, "proofs": """use mathlib.Core.Path.{◌≡◌, refl}
 use mathlib.Core.Bool.{Bool, true, false}
 use mathlib.Core.List.{List, [], ◌∷◌, ◌++◌, map}
-use mathlib.Core.Option.{Option, none, some}
+use Rattle.std.specs.Prelude.{Option, None, Some, Ok, Err}
 use Prim.Native.Nat.{ℕ, ◌+◌, ◌*◌}
 use lib.IntN.{ℤ, pos, negsuc}
 use lib.ListN.{length, replicate}
@@ -40,10 +39,7 @@ use Rattle.scope.specs.declared.answers.Place.TheVariants.{AtVertex, AtHalfedge,
 use Rattle.scope.specs.declared.answers.Fault.{Fault}
 use Rattle.scope.specs.declared.answers.Refusal.{Refusal}
 use Rattle.scope.specs.declared.answers.Refusal.TheVariants.{TooManyPasses, ShortSlice, NotConsistent, MarkedDeleted, NoRoom, NoWeight, BadHandle, CannotInsertEdge, HalfedgesNotInTheSameLoop, NotDeletedFace, ComplexVertex, CannotSwapBoundaryEdge, WouldBreak}
-use Rattle.scope.specs.declared.answers.Subdivided.{Subdivided}
-use Rattle.scope.specs.declared.answers.Subdivided.TheVariants.{Done, Refused}
-use Rattle.scope.specs.declared.answers.Edited.{Edited}
-use Rattle.scope.specs.declared.answers.Edited.TheVariants.{Changed, Unchanged}
+use Rattle.scope.specs.Answers.{Subdivided, Edited}
 """
 
 
@@ -199,7 +195,7 @@ abbrev put_at : Outcome → ℕ → Row
 put_at o v = puts (point_at o.left.points v)
 
 abbrev counts : ℕ → ℕ → ℕ → Bool → Row
-counts v e f flag = says (Done (record { v = v; e = e; f = f }) flag)
+counts v e f flag = says (Ok (record { v = v; e = e; f = f }, flag))
 
 abbrev at : Float → Float → Float → Row
 at x y z = puts (record { x = x; y = y; z = z })
@@ -296,7 +292,7 @@ def scheme_cases(opened):
                 left = "refused (%s) (%s %d %d %d %d)" % (refusal(a), "lent" if int(a[0]) < 5 else "zeros", *size)
                 key = (op[0], a[0])
             says = "%s (%s) ≡\n    %s" % (call, lent, left)
-            if a[0] == "6": says = "refuses %s %s %s (%s) ≡ some (%s)" % (SCHEME[op[0]], passes, flag, mesh_term(m), refusal(a))
+            if a[0] == "6": says = "refuses %s %s %s (%s) ≡ Some (%s)" % (SCHEME[op[0]], passes, flag, mesh_term(m), refusal(a))
             cases.append((m.E + r.E, key, "%s :\n    %s\nunfolding %s\n%s = refl\n" % (name, says, opened, name)))
     return cases
 
@@ -326,7 +322,7 @@ abbrev pub done : Given → Bool → ℕ → Outcome
 done g flag w =
     let s = g.slices in
     record {
-      answer = Done g.counts flag;
+      answer = Ok (g.counts, flag);
       left = record {
         result = record {
           outs = three-more s.outs;
@@ -342,7 +338,7 @@ done g flag w =
     }
 
 abbrev pub refused : Refusal → Buffers → Outcome
-refused r b = record { answer = Refused r; left = b }
+refused r b = record { answer = Err r; left = b }
 
 -- the refusal where there is room for a million of each
 abbrev pub vast : Sizes
@@ -368,8 +364,8 @@ def edit_cases(opened):
         room = (after.V - m.V + 2, after.E - m.E + 1, after.F - m.F + 1)
         own = "own %d %d %d (%s)" % (*m.counts, ") (".join(padded(m, room, "7")))
         left = "own %d %d %d (%s)" % (*after.counts, ") (".join(padded(after, (2, 1, 1) if done else room, "7")))
-        answer = "Changed (record { v = %d; e = %d; f = %d }) %s" % (*after.counts, value or "0") if done else "Unchanged (%s)" % refusal(a)
-        if op[0] in ("swap_ccw", "swap_cw"): answer = answer.replace(") 1", ") 0") if done else answer
+        answer = "Ok (record { v = %d; e = %d; f = %d }, %s)" % (*after.counts, value or "0") if done else "Err (%s)" % refusal(a)
+        if op[0] in ("swap_ccw", "swap_cw"): answer = answer.replace("}, 1)", "}, 0)") if done else answer
         key = (op[0], a[0], op[0] == "insert_edge" and done and m.face(int(op[1])) == NONE, op[0] == "insert_edge" and done and op[3] != "-")
         cases.append((m.E + after.E, key, "%s :\n    edit (%s) (%s) ≡\n    gives (%s) (%s)\nunfolding %s\n%s = refl\n" % (name, edit, own, answer, left, opened, name)))
     return cases
@@ -399,7 +395,7 @@ gives a o = record { answer = a; left = o }
 def check_cases(opened):
     cases = []
     for name, m, op, a, value, r in blocks("check.txt"):
-        wrong = "none" if a[0] == "0" else "some (record { rule = %s; place = %s %s })" % (a[1], KIND[a[2]], a[3])
+        wrong = "None" if a[0] == "0" else "Some (record { rule = %s; place = %s %s })" % (a[1], KIND[a[2]], a[3])
         cases.append((m.E, tuple(a[:3]), "%s :\n    wrong (%s) ≡ %s\nunfolding %s\n%s = refl\n" % (name, mesh_term(m), wrong, opened, name)))
     return cases
 
@@ -444,7 +440,7 @@ pub rooms :
         for short in [None] + list(range(8)):
             l = [x - (i == short) for i, x in enumerate(exact)]
             t += "    with-room %s (%s) ∷\n" % (S, ints(l))
-            wanted.append("none" if short is None else "some NoRoom")
+            wanted.append("None" if short is None else "Some NoRoom")
     return t + "    []\n    ) (\n    " + " ∷ ".join(wanted) + " ∷ []\n    )\nunfolding %s\nrooms = refl\n" % opened
 
 

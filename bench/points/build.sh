@@ -7,6 +7,6 @@ copy=$(mktemp -d); trap 'rm -rf "$copy"' EXIT
 cp -r "$top/crates" "$top/crates.txt" "$copy/"
 cp -r "$here/timed" "$copy/crates/timed"
 find "$copy/crates/timed" -name '*.in' | while read -r f; do mv "$f" "${f%.in}"; done
-echo "timed staticlib: scope points_weights points_catmull points_triangles" >> "$copy/crates.txt"
+echo "timed staticlib: scope points_catmull points_triangles" >> "$copy/crates.txt"
 (cd "$copy/crates/timed" && rt lib)
 mkdir -p "$here/out"; cp "$copy/crates/timed/out/libtimed.a" "$here/out/"

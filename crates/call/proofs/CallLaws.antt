@@ -4,7 +4,7 @@ use mathlib.Core.Path.{◌≡◌, refl, sym, ap, ◌∙◌, subst, subst⁻¹}
 use mathlib.Core.Logic.{◌≢◌}
 use mathlib.Core.Bool.{Bool, true, false, not}
 use mathlib.Core.List.{List, [], ◌∷◌}
-use mathlib.Core.Option.{Option, none, some}
+use Rattle.std.specs.Prelude.{Option, None, Some, Ok, Err}
 use native.Mathlib.Omega.{arith}
 use borrow.Author.Tests.{leb-true}
 use lib.Dec.{ltb}
@@ -15,9 +15,7 @@ use Rattle.scope.specs.declared.answers.Place.{Place}
 use Rattle.scope.specs.declared.answers.Fault.{Fault}
 use Rattle.scope.specs.declared.answers.Refusal.{Refusal}
 use Rattle.scope.specs.declared.answers.Refusal.TheVariants.{ShortSlice, NotConsistent, MarkedDeleted, NoRoom}
-use Rattle.scope.specs.declared.answers.Checked.{Checked}
-use Rattle.scope.specs.declared.answers.Checked.TheVariants.{Sound, Unsound}
-use Rattle.scope.specs.declared.answers.Subdivided.TheVariants.{Done, Refused}
+use Rattle.scope.specs.Answers.{Checked}
 use Rattle.scope.specs.Lists.{lay, ◌or_else◌}
 use Rattle.scope.specs.Links.{Links, Marks}
 use Rattle.scope.specs.Check.{fault}
@@ -53,25 +51,25 @@ module _ (S : Scheme) (k : ℕ) (flag : Bool) (g : Given) (b : Buffers) where
   -- none of the answers 1 to 4
   pub record Clear : Type 0 where
     pub past : Open S k flag g b
-    pub wanted : unwanted S k (marks_in g) ≡ none
+    pub wanted : unwanted S k (marks_in g) ≡ None
 
   abbrev Sees : Option Refusal → Type 0
-  Sees none = Clear
-  Sees (some r) = call S k flag g b ≡ outcome_at (Refused r) b
+  Sees None = Clear
+  Sees (Some r) = call S k flag g b ≡ outcome_at (Err r) b
 
   seen : Sees (looked k g.counts g.slices (length g.points))
   unfolding looked
   seen = at-many (ltb 12 k) refl
     where
       at-deleted : Open S k flag g b → (o : Option Place) → unwanted S k (marks_in g) ≡ o → Sees (refuse o MarkedDeleted)
-      at-deleted w none e = record { past = w; wanted = e }
-      at-deleted w (some p) e = call-deleted S k flag g b w p e
+      at-deleted w None e = record { past = w; wanted = e }
+      at-deleted w (Some p) e = call-deleted S k flag g b w p e
 
       at-fault : ltb 12 k ≡ false → Fitting g true → (o : Option Fault) → fault (links_in g) (marks_in g) ≡ o →
           Sees (refuse o NotConsistent or_else refuse (unwanted_in k (marks_in g)) MarkedDeleted)
-      at-fault few fit none e =
+      at-fault few fit None e =
           at-deleted (record { few = few; sized = fit; whole = e }) (unwanted_in k (marks_in g)) (unwanted-is S k (marks_in g))
-      at-fault few fit (some x) e = call-faulty S k flag g b few fit x e
+      at-fault few fit (Some x) e = call-faulty S k flag g b few fit x e
 
       at-short : ltb 12 k ≡ false → (t : Bool) → Fitting g t →
           Sees (refuse_if (not t) ShortSlice or_else refuse (fault (links_in g) (marks_in g)) NotConsistent or_else refuse (unwanted_in k (marks_in g)) MarkedDeleted)
@@ -82,19 +80,19 @@ module _ (S : Scheme) (k : ℕ) (flag : Bool) (g : Given) (b : Buffers) where
       at-many true e = rw e (call-many S k flag g b e)
       at-many false e = rw e (at-short e (fits_with g.counts (sizes g.slices) (length g.points)) (unfold counts_of links_of in refl))
 
-  pub seen-refused : {r : Checked} {x : Refusal} → r ≡ answered (looked k g.counts g.slices (length g.points)) → r ≡ Unsound x →
-      outcome_at (Refused x) b ≡ call S k flag g b
+  pub seen-refused : {r : Checked} {x : Refusal} → r ≡ answered (looked k g.counts g.slices (length g.points)) → r ≡ Err x →
+      outcome_at (Err x) b ≡ call S k flag g b
   seen-refused {r} {x} e d =
       let q = answered-unsound (looked k g.counts g.slices (length g.points)) (sym e ∙ d) in
       sym (subst Sees q seen)
 
-  pub seen-clear : {r : Checked} → r ≡ answered (looked k g.counts g.slices (length g.points)) → r ≡ Sound → Clear
+  pub seen-clear : {r : Checked} → r ≡ answered (looked k g.counts g.slices (length g.points)) → r ≡ (Ok tt) → Clear
   seen-clear {r} e d =
       let q = answered-sound (looked k g.counts g.slices (length g.points)) (sym e ∙ d) in
       subst Sees q seen
 
 -- ---- past the first looks
-module _ (S : Scheme) (k : ℕ) (flag : Bool) (g : Given) (b : Buffers) (clear : Clear S k flag g b) where
+module _ {S : Scheme} {k : ℕ} {flag : Bool} {g : Given} {b : Buffers} (clear : Clear S k flag g b) where
   pub fits-given : Fits g.counts (sizes g.slices) (length g.points)
   fits-given = what-fits g.counts (sizes g.slices) (length g.points) (unfold links_of counts_of in clear.past.sized)
 
@@ -137,7 +135,7 @@ module _ (S : Scheme) (k : ℕ) (flag : Bool) (g : Given) (b : Buffers) (clear :
 
   -- answer 5
   pub ends-full : {r : Bool} → r ≡ enough S k flag (links_in g) (sizes b.result) (length b.points) (length b.work) → r ≡ false →
-      outcome_at (Refused NoRoom) (wiped b) ≡ call S k flag g b
+      outcome_at (Err NoRoom) (wiped b) ≡ call S k flag g b
   ends-full e d = sym (call-full S k flag g b clear.past clear.wanted (sym e ∙ d))
 
   module _ (room : Room S k flag g b) where
@@ -146,7 +144,7 @@ module _ (S : Scheme) (k : ℕ) (flag : Bool) (g : Given) (b : Buffers) (clear :
     unfolding final begin tally counted tally_of links_of
     fits-zero z = let e : Room S 0 flag g b = rw z at room in room_fits S 0 flag g b e
 
-    pub ends-copied : k ≡ 0 → outcome_at (Done g.counts flag) (filled g.counts g.slices g.points b) ≡ call S k flag g b
+    pub ends-copied : k ≡ 0 → outcome_at (Ok (g.counts, flag)) (filled g.counts g.slices g.points b) ≡ call S k flag g b
     ends-copied z =
         sym (copies S flag g b (unfold links_of counts_of in clear.past.sized) clear.past.whole (fits-zero z))
         ∙ ap (λ (j : ℕ). call S j flag g b) (sym z)
@@ -190,11 +188,11 @@ module _ (S : Scheme) (sides : ℕ) (w : Laws S sides) (flag : Bool) (g : Given)
     gone-on : (o : Option (ℕ × ℕ)) → overweight S (suc j) flag (links_in g) ≡ o →
         call S (suc j) flag g b ≡ gone o S (suc j) first (S.prepare (links_in g)) (points_in g) b
     unfolding gone last_links last_flag last_points last_marks subdivided begin
-    gone-on none e =
+    gone-on None e =
         call-done S (suc j) flag g b clear.past clear.wanted room e
-        ∙ ap (outcome_at (Done (counts_of (links S (suc j) first (S.prepare (links_in g)))) (turned S (suc j) first)))
+        ∙ ap (outcome_at (Ok (counts_of (links S (suc j) first (S.prepare (links_in g))), turned S (suc j) first)))
         (done-laid (links S (suc j) first (S.prepare (links_in g))) (points S (suc j) first (S.prepare (links_in g)) (points_in g)) b (ends S sides w (suc j) flag g b clear.past clear.wanted room).exact)
-    gone-on (some p) e = call-heavy S (suc j) flag g b clear.past clear.wanted room p e
+    gone-on (Some p) e = call-heavy S (suc j) flag g b clear.past clear.wanted room p e
 
     gone-call : gone_by S (suc j) first (links_in g) (points_in g) b ≡ call S (suc j) flag g b
     unfolding overweight begin
@@ -207,10 +205,10 @@ module _ (S : Scheme) (sides : ℕ) (w : Laws S sides) (flag : Bool) (g : Given)
     ready-to-go : GoReady S (suc j) first g.counts g.slices.outs g.slices.edges g.slices.faces g.points b
     unfolding links_of used sizes final begin counted
     ready-to-go =
-        let h = fits-given S (suc j) flag g b clear in
+        let h = fits-given clear in
         let r = what-fits _ _ _ (room_fits S (suc j) flag g b room) in
         record {
-          good = clear-good S (suc j) flag g b clear (λ z. omega arith);
+          good = clear-good clear (λ z. omega arith);
           asked = flag;
           settled = refl;
           takes = record { few = h.e_in; outs_in = h.outs_in; edges_in = h.edges_in; faces_in = h.faces_in };
@@ -224,7 +222,7 @@ module _ (S : Scheme) (sides : ℕ) (w : Laws S sides) (flag : Bool) (g : Given)
         }
 
   -- as the code has them: k passes, not none
-  module _ (k : ℕ) (n : k ≢ 0) (clear : Clear S k flag g b) (room : Room S k flag g b) {f : Bool} (e : f ≡ first) where
+  module _ {k : ℕ} (n : k ≢ 0) (clear : Clear S k flag g b) (room : Room S k flag g b) {f : Bool} (e : f ≡ first) where
     pub ends-ready : GoReady S k f g.counts g.slices.outs g.slices.edges g.slices.faces g.points b
     ends-ready = rw e (go k n clear room)
       where

@@ -3,14 +3,15 @@ use Prim.Native.Nat.{ℕ, ◌*◌, ◌≤◌}
 use mathlib.Core.Path.{◌≡◌, refl, sym, ap, ◌∙◌, subst⁻¹}
 use mathlib.Core.Bool.{Bool}
 use mathlib.Core.List.{List, []}
-use mathlib.Core.Option.{some}
+use Rattle.std.specs.Prelude.{Some, Ok, Err}
 use native.Mathlib.Omega.{arith}
 use lib.ListN.{length, take}
 use lib.Seq.{length-take-le}
 use lib.Ieee.{Float}
 use Rattle.scope.specs.declared.records.Counts.{Counts}
+use Rattle.scope.specs.declared.answers.Refusal.{Refusal}
 use Rattle.scope.specs.declared.answers.Refusal.TheVariants.{NoWeight}
-use Rattle.scope.specs.declared.answers.Subdivided.TheVariants.{Done, Refused}
+use Rattle.scope.specs.Answers.{Subdivided}
 use Rattle.scope.specs.Lists.{lay}
 use Rattle.scope.specs.Links.{Links}
 use Rattle.scope.specs.Tally.{Tally, tally_of, counts_of}
@@ -28,18 +29,16 @@ use Rattle.call_room.proofs.KindLaws.{laws-of}
 use Rattle.links_edits.proofs.StoreLaws.{held-is}
 use Rattle.links_edits.specs.Held.{given, Room}
 use Rattle.links_edits.proofs.HeldLaws.{take-lay, lay-lay, held-lay, given-laid}
-use Rattle.call_steps.specs.declared.passes.Ran.{Ran}
-use Rattle.call_steps.specs.declared.passes.Ran.TheVariants.{Through, Stopped}
 use Rattle.call_steps.specs.Rooms.{needed}
 use Rattle.call_steps.specs.Stores.{Takes}
-use Rattle.call_steps.specs.Passing.{Roomy, PrepareReady, RunReady, Comes, WentOn}
+use Rattle.call_steps.specs.Passing.{Roomy, PrepareReady, RunReady, Comes, WentOn, Stays}
 use Rattle.call_steps.specs.Lent.{buffers_at, outcome_at}
 use Rattle.call.specs.Gone.{laid_in, gone, gone_by, GoReady}
 
 laid-long : {A : Type 0} (z : A) (l old s : List A) → s ≡ lay z l old → length s ≡ length old
 laid-long z l old s e = ap length e ∙ length-lay z l old
 
-module _ (kind : Kind) (k : ℕ) (flag : Bool) (c : Counts) (outs edges faces : List ℕ) (ps : List Float) (b : Buffers)
+module _ (kind : Kind) {k : ℕ} {flag : Bool} {c : Counts} {outs edges faces : List ℕ} {ps : List Float} {b : Buffers}
     (r : GoReady (scheme_of kind) k flag c outs edges faces ps b) where
   abbrev S : Scheme
   S = scheme_of kind
@@ -255,17 +254,18 @@ module _ (kind : Kind) (k : ℕ) (flag : Bool) (c : Counts) (outs edges faces : 
           }
 
       -- ---- after the passes
-      module _ (o₃ e₃ f₃ : List ℕ) (p₃ work₃ : List Float) (a : Ran)
-          (h : WentOn S k flag (given d o₂ e₂ f₂) (take (3 * d.v) p₁) o₂ e₂ f₂ p₁ o₃ e₃ f₃ p₃ a) (work-long : length work₃ ≡ length b.work) where
-        from-given : WentOn S k flag x (take (3 * c.v) ps) o₂ e₂ f₂ p₁ o₃ e₃ f₃ p₃ a
+      module _ (a : Buffers) (u : Subdivided)
+          (h : WentOn S k flag (given d o₂ e₂ f₂) (take (3 * d.v) p₁) o₂ e₂ f₂ p₁ a.result.outs a.result.edges a.result.faces a.points u)
+          (st : Stays (buffers_at (slices_at o₂ e₂ f₂ b.result.vmarks b.result.emarks b.result.fmarks) p₁ b.work) a) where
+        from-given : WentOn S k flag x (take (3 * c.v) ps) o₂ e₂ f₂ p₁ a.result.outs a.result.edges a.result.faces a.points u
         from-given = rw (prepared, points-given) at h
 
-        pub ends_through : {n : Counts} {next : Bool} {vm em fm : List ℕ} {wk : List Float} → a ≡ Through n next →
-            vm ≡ lay 0 [] b.result.vmarks → em ≡ lay 0 [] b.result.emarks → fm ≡ lay 0 [] b.result.fmarks → wk ≡ lay float_zero (take 0 work₃) work₃ →
-            outcome_at (Done n next) (buffers_at (slices_at o₃ e₃ f₃ vm em fm) p₃ wk) ≡ gone_by S k flag m (take (3 * c.v) ps) b
+        pub ends_through : {n : Counts} {next : Bool} {vm em fm : List ℕ} {wk : List Float} → u ≡ Ok (n, next) →
+            vm ≡ lay 0 [] a.result.vmarks → em ≡ lay 0 [] a.result.emarks → fm ≡ lay 0 [] a.result.fmarks → wk ≡ lay float_zero (take 0 a.work) a.work →
+            outcome_at (Ok (n, next)) (buffers_at (slices_at a.result.outs a.result.edges a.result.faces vm em fm) a.points wk) ≡ gone_by S k flag m (take (3 * c.v) ps) b
         unfolding gone laid_in
         ends_through {n} {next} {vm} {em} {fm} {wk} q ve me ge we =
-            let t : Comes S k flag x (take (3 * c.v) ps) n next o₂ e₂ f₂ p₁ o₃ e₃ f₃ p₃ = rw q at from-given in
+            let t : Comes S k flag x (take (3 * c.v) ps) n next o₂ e₂ f₂ p₁ a.result.outs a.result.edges a.result.faces a.points = rw q at from-given in
             let l = t.lies in
             let o = l.outs_are ∙ ap (lay 0 (links S k flag x).outs) o₂-is ∙ lay-lay 0 (links S k flag x).outs x.outs b.result.outs in
             let e = l.edges_are ∙ ap (lay 0 (links S k flag x).edges) e₂-is ∙ lay-lay 0 (links S k flag x).edges x.edges b.result.edges in
@@ -274,21 +274,26 @@ module _ (kind : Kind) (k : ℕ) (flag : Bool) (c : Counts) (outs edges faces : 
             l.points_are
             ∙ ap (lay float_zero (points S k flag x (take (3 * c.v) ps))) pe
             ∙ lay-lay float_zero (points S k flag x (take (3 * c.v) ps)) (take (3 * c.v) ps) b.points in
-            let y = we ∙ lay-same float_zero [] work₃ b.work work-long in
-            rw (o, e, f, p, ve, me, ge, y, t.counts_are, t.flag_is, t.weights_there)
+            let y = we ∙ lay-same float_zero [] a.work b.work st.work_long in
+            rw (o, e, f, p, ve ∙ ap (lay 0 []) st.vmarks_stay, me ∙ ap (lay 0 []) st.emarks_stay, ge ∙ ap (lay 0 []) st.fmarks_stay, y, t.counts_are, t.flag_is, t.weights_there)
 
-        pub ends-stopped : {n v : ℕ} {left : Buffers} → a ≡ Stopped n v → left ≡ wiped (buffers_at (slices_at o₃ e₃ f₃ b.result.vmarks b.result.emarks b.result.fmarks) p₃ work₃) →
-            length o₃ ≡ length o₂ → length e₃ ≡ length e₂ → length f₃ ≡ length f₂ → length p₃ ≡ length p₁ →
-            outcome_at (Refused (NoWeight n v)) left ≡ gone_by S k flag m (take (3 * c.v) ps) b
-        unfolding gone wiped filled used points_of
-        ends-stopped {n} {v} {left} q le ol el fl pl =
-            let s : heavy S k 1 flag x ≡ some (n, v) = rw q at from-given in
-            rw (
-              le,
-              s,
-              lay-same 0 [] o₃ b.result.outs (ol ∙ o₂-long),
-              lay-same 0 [] e₃ b.result.edges (el ∙ e₂-long),
-              lay-same 0 [] f₃ b.result.faces (fl ∙ f₂-long),
-              lay-same float_zero [] p₃ b.points (pl ∙ p₁-long),
-              lay-same float_zero [] work₃ b.work work-long,
-            )
+        -- zeros go by lengths
+        wiped-here : wiped a ≡ wiped b
+        unfolding wiped filled used points_of
+        wiped-here = rw (
+          lay-same 0 [] a.result.outs b.result.outs (st.outs_long ∙ o₂-long),
+          lay-same 0 [] a.result.edges b.result.edges (st.edges_long ∙ e₂-long),
+          lay-same 0 [] a.result.faces b.result.faces (st.faces_long ∙ f₂-long),
+          st.vmarks_stay,
+          st.emarks_stay,
+          st.fmarks_stay,
+          lay-same float_zero [] a.points b.points (st.points_long ∙ p₁-long),
+          lay-same float_zero [] a.work b.work st.work_long,
+        )
+
+        pub ends-stopped : {e : Refusal} {left : Buffers} → u ≡ Err e → left ≡ wiped a →
+            outcome_at (Err e) left ≡ gone_by S k flag m (take (3 * c.v) ps) b
+        unfolding gone
+        ends-stopped {e} {left} q le =
+            let s : (p : ℕ × ℕ) × (heavy S k 1 flag x ≡ Some p) × (e ≡ NoWeight p.0 p.1) = rw q at from-given in
+            rw (le ∙ wiped-here, s.2, s.1)

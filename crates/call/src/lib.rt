@@ -2,61 +2,48 @@
 
 #![tactic(auto)]
 
-ghost use Rattle.std.specs.Prelude.{◌≡◌, take, ◌*◌};
+ghost use Rattle.std.specs.Prelude.{◌≡◌};
 ghost use Rattle.scope.specs.Call.{call};
-ghost use Rattle.check_mesh.specs.Checked.{slices_at};
+ghost use Rattle.mesh.specs.Given.{given};
 ghost use Rattle.call_room.specs.Kinds.{scheme_of};
-ghost use Rattle.links_edits.specs.Held.{given};
-ghost use Rattle.call_steps.specs.Lent.{given_at, buffers_at, outcome_at};
-ghost use Rattle.call.specs.Gone.{gone_by, GoReady};
+ghost use Rattle.call_steps.specs.Lent.{lent, outcome_at, SameSlices};
+ghost use Rattle.call.specs.Gone.{gone_from, GoFrom};
 
 use call_room::kind::{Kind, settle};
+use call_steps::lent::Buffers;
 use call_steps::look::look;
-use call_steps::passes::{Ran, prepare, run};
+use call_steps::passes::{prepare, run};
 use call_steps::space::enough;
 use call_steps::store::{clear_marks, copy_links, copy_mesh, wipe};
-use scope::answers::{Checked, Refusal, Subdivided};
+use mesh::given::Given;
+use scope::answers::Refusal;
 use scope::records::Counts;
-use slices::numbers::{clear_numbers, lay_numbers};
+use slices::copies::{clear, lay};
 
 // One pass or more of a mesh for which there is room, the first with this flag.
 fn go(
     kind: Kind,
     passes: u32,
     flag: bool,
-    outs: &[u32],
-    edges: &[u32],
-    faces: &[u32],
-    points: &[f64],
-    c: Counts,
-    newouts: &mut [u32],
-    newedges: &mut [u32],
-    newfaces: &mut [u32],
-    newvmarks: &mut [u8],
-    newemarks: &mut [u8],
-    newfmarks: &mut [u8],
-    newpoints: &mut [f64],
-    work: &mut [f64],
-) -> Subdivided
-    requires { GoReady (scheme_of kind) passes flag c outs.now edges.now faces.now points.now (buffers_at (slices_at newouts.old newedges.old newfaces.old newvmarks.old newemarks.old newfmarks.old) newpoints.old work.old) }
-    ensures { outcome_at result (buffers_at (slices_at newouts.new newedges.new newfaces.new newvmarks.new newemarks.new newfmarks.new) newpoints.new work.new) ≡ gone_by (scheme_of kind) passes flag (given c outs.now edges.now faces.now) (take (3 * c.v) points.now) (buffers_at (slices_at newouts.old newedges.old newfaces.old newvmarks.old newemarks.old newfmarks.old) newpoints.old work.old) }
+    g: Given<'_>,
+    room: &mut Buffers<'_>,
+) -> Result<(Counts, bool), Refusal>
+    requires { GoFrom (scheme_of kind) passes flag (given g) (lent room.old) }
+    ensures same_slices { SameSlices room.old room.new }
+    ensures outcome { outcome_at result (lent room.new) ≡ gone_from (scheme_of kind) passes flag (given g.entry) (lent room.old) }
 {
-    copy_links(outs, edges, faces, c, newouts, newedges, newfaces);
-    lay_numbers(points, newpoints, 3 * c.v);
-    let d = prepare(kind, c, newouts, newedges, newfaces);
-    match run(
-        kind, passes, flag, d, newouts, newedges, newfaces, newpoints, work,
-    ) {
-        Ran::Stopped(n, v) => {
-            wipe(
-                newouts, newedges, newfaces, newvmarks, newemarks, newfmarks, newpoints, work,
-            );
-            Subdivided::Refused(Refusal::NoWeight(n, v))
+    copy_links(g.slices, g.counts, room.outs, room.edges, room.faces);
+    lay(g.points, room.points, 3 * g.counts.v, 0.0);
+    let d = prepare(kind, g.counts, room.outs, room.edges, room.faces);
+    match run(kind, passes, flag, d, room) {
+        Ok((x, next)) => {
+            clear_marks(room.vmarks, room.emarks, room.fmarks);
+            clear(room.work, 0, 0.0);
+            Ok((x, next))
         }
-        Ran::Through(x, next) => {
-            clear_marks(newvmarks, newemarks, newfmarks);
-            clear_numbers(work, 0);
-            Subdivided::Done(x, next)
+        Err(r) => {
+            wipe(room);
+            Err(r)
         }
     }
 }
@@ -67,52 +54,22 @@ pub fn subdivide(
     kind: Kind,
     passes: u32,
     flag: bool,
-    outs: &[u32],
-    edges: &[u32],
-    faces: &[u32],
-    vmarks: &[u8],
-    emarks: &[u8],
-    fmarks: &[u8],
-    points: &[f64],
-    c: Counts,
-    newouts: &mut [u32],
-    newedges: &mut [u32],
-    newfaces: &mut [u32],
-    newvmarks: &mut [u8],
-    newemarks: &mut [u8],
-    newfmarks: &mut [u8],
-    newpoints: &mut [f64],
-    work: &mut [f64],
-) -> Subdivided
-    ensures { outcome_at result (buffers_at (slices_at newouts.new newedges.new newfaces.new newvmarks.new newemarks.new newfmarks.new) newpoints.new work.new) ≡ call (scheme_of kind) passes flag (given_at c (slices_at outs.now edges.now faces.now vmarks.now emarks.now fmarks.now) points.now) (buffers_at (slices_at newouts.old newedges.old newfaces.old newvmarks.old newemarks.old newfmarks.old) newpoints.old work.old) }
+    g: Given<'_>,
+    room: &mut Buffers<'_>,
+) -> Result<(Counts, bool), Refusal>
+    ensures same_slices { SameSlices room.old room.new }
+    ensures outcome { outcome_at result (lent room.new) ≡ call (scheme_of kind) passes flag (given g.entry) (lent room.old) }
 {
-    match look(
-        passes, outs, edges, faces, vmarks, emarks, fmarks, points, c,
-    ) {
-        Checked::Unsound(r) => Subdivided::Refused(r),
-        Checked::Sound => {
-            let first = settle(kind, flag);
-            let used = &edges[..8 * c.e];
-            if !enough(
-                kind, passes, first, used, c, newouts, newedges, newfaces, newvmarks, newemarks,
-                newfmarks, newpoints, work,
-            ) {
-                wipe(
-                    newouts, newedges, newfaces, newvmarks, newemarks, newfmarks, newpoints, work,
-                );
-                return Subdivided::Refused(Refusal::NoRoom);
-            }
-            if passes == 0 {
-                copy_mesh(
-                    outs, edges, faces, vmarks, emarks, fmarks, points, c, newouts, newedges,
-                    newfaces, newvmarks, newemarks, newfmarks, newpoints, work,
-                );
-                return Subdivided::Done(c, flag);
-            }
-            go(
-                kind, passes, first, outs, edges, faces, points, c, newouts, newedges, newfaces,
-                newvmarks, newemarks, newfmarks, newpoints, work,
-            )
-        }
+    look(passes, g)?;
+    let first = settle(kind, flag);
+    let used = &g.slices.edges[..8 * g.counts.e];
+    if !enough(kind, passes, first, used, g.counts, room) {
+        wipe(room);
+        return Err(Refusal::NoRoom);
     }
+    if passes == 0 {
+        copy_mesh(g, room);
+        return Ok((g.counts, flag));
+    }
+    go(kind, passes, first, g, room)
 }

@@ -1,6 +1,6 @@
 -- Amounts pass by pass: S and b stay within all halfedges, and what is over the limit stays over it. Assumes nothing.
-use Prim.Native.Nat.{ℕ, zero, suc, ◌+◌, ◌-◌, ◌≤◌, ◌<◌}
-use mathlib.Core.Path.{◌≡◌, refl, ◌∙◌}
+use Prim.Native.Nat.{ℕ, zero, suc, ◌+◌, ◌-◌, ◌<◌}
+use mathlib.Core.Path.{◌≡◌, ◌∙◌}
 use mathlib.Core.Bool.{Bool}
 use native.Mathlib.Omega.{arith}
 use Rattle.scope.specs.Tally.{Tally, catmull_tally}
@@ -41,9 +41,6 @@ module _ (S : Scheme) where
 
 -- ---- the search ahead
 module _ (kind : Kind) where
-  pub ahead-start : (k : ℕ) (flag : Bool) (t : Tally) → Whole t → Faced t → AheadOf (scheme_of kind) k k flag flag t t
-  ahead-start k flag t w f = record { whole = w; faced = f; onward = λ j. refl; flag_onward = refl }
-
   pub ahead-next : {k left : ℕ} {flag next then : Bool} {t x y : Tally} → AheadOf (scheme_of kind) k left flag next t x → 0 < left →
       y ≡ (scheme_of kind).grow next x → then ≡ (scheme_of kind).turn next → AheadOf (scheme_of kind) k (left - 1) flag then t y
   ahead-next {k} {left} {flag} {next} {then} {t} {x} {y} a l e d = record {
@@ -58,7 +55,3 @@ module _ (kind : Kind) where
   ahead-over {k} {left} {flag} {next} {t} {x} a n j w =
       let v : Within (tally (scheme_of kind) (left + j) next x) = rw (a.onward j) at w in
       n (within_step x _ (tally-step (scheme_of kind) (sides_of kind) (laws-of kind) (left + j) next x a.faced) v)
-
-  pub ahead-done : {k left : ℕ} {flag next : Bool} {t x : Tally} → AheadOf (scheme_of kind) k left flag next t x → left ≤ 0 →
-      AheadOf (scheme_of kind) k 0 flag next t x
-  ahead-done {k} {left} a l = let e : left ≡ 0 = omega arith in rw e at a

@@ -12,27 +12,11 @@ ghost use Rattle.call_room.specs.Ahead.{Whole, Told};
 use crate::kind::{Kind, turn};
 use crate::tally::Amounts;
 
-// The amounts that are ahead and the flag there, or that a count is over the limit by then.
-#[derive(Clone, Copy)]
-pub enum Ahead {
-    Reached(Amounts, bool),
-    Over,
-}
-
 // No count is over the limit.
 pub fn within(t: Amounts) -> bool
     ensures { Tells result (Within (tallied t)) }
 {
-    if 1048576 < t.v {
-        return false;
-    }
-    if 1048576 < t.e {
-        return false;
-    }
-    if 1048576 < t.f {
-        return false;
-    }
-    true
+    t.v <= 1048576 && t.e <= 1048576 && t.f <= 1048576
 }
 
 // The amounts that the first pass starts from.
@@ -70,25 +54,23 @@ pub fn grow(kind: Kind, flag: bool, t: Amounts) -> Amounts
     }
 }
 
-// k passes ahead, the first with this flag.
-pub fn forecast(kind: Kind, k: u32, flag: bool, t: Amounts) -> Ahead
+// The amounts k passes ahead, the first with this flag, and the flag there; none if a count is over the limit by then.
+pub fn forecast(kind: Kind, k: u32, flag: bool, t: Amounts) -> Option<(Amounts, bool)>
     requires whole { Whole (tallied t) }
     requires faced { Faced (tallied t) }
     ensures { Told (scheme_of kind) k flag (tallied t) result }
 {
-    let mut left = k;
     let mut now = t;
     let mut next = flag;
-    while left > 0 {
+    for _ in 0..k {
         if !within(now) {
-            return Ahead::Over;
+            return None;
         }
         now = grow(kind, next, now);
         next = turn(kind, next);
-        left -= 1;
     }
     if !within(now) {
-        return Ahead::Over;
+        return None;
     }
-    Ahead::Reached(now, next)
+    Some((now, next))
 }

@@ -1,5 +1,6 @@
 // The schemes that a call can be asked for. A scheme joins by a variant here and a branch wherever one is matched; what the
-// branches are worth is said of `scheme_of`, and all that is proved of calls is proved over a scheme that keeps its laws.
+// branches are worth is said of `scheme_of`, and all that is proved of calls is proved over a scheme that keeps its laws. An enum, as
+// a job card names its scheme by a word (`refine_words`): with a trait the same match would stand there.
 
 ghost use Rattle.std.specs.Prelude.{◌≡◌};
 ghost use Rattle.scope.specs.Links.{Links};

@@ -2,9 +2,7 @@
 
 ghost use Rattle.std.specs.Prelude.{◌≡◌, not, length, ◌≤◌, ◌*◌};
 ghost use Rattle.scope.specs.Lists.{number_of};
-ghost use Rattle.laws_mesh.specs.Count.{bit};
 ghost use Rattle.mesh.specs.Rounds.{rim_at};
-ghost use Rattle.mesh.specs.Words.{Has};
 ghost use Rattle.call_room.specs.Amounts.{amounts_at};
 
 use mesh::rim::rim;
@@ -20,31 +18,13 @@ pub struct Amounts {
     pub b: usize,
 }
 
-// 1 for a halfedge with a face.
-fn corner(edges: &[u32], h: u32) -> usize
-    requires { Has edges.now h }
-    ensures { result ≡ bit (not (rim_at edges.now h)) }
-{
-    if rim(edges, h) {
-        return 0;
-    }
-    1
-}
-
 // How many halfedges of the n edges have a face.
 fn corners(edges: &[u32], n: u32) -> usize
     requires n_bound { n ≤ 1048576 }
     requires n_in_bounds { 8 * n ≤ length edges.now }
     ensures { result ≡ number_of (2 * n) (λ h. not (rim_at edges.now h)) }
 {
-    let all = 2 * n;
-    let mut s: usize = 0;
-    let mut h: u32 = 0;
-    while h < all {
-        s += corner(edges, h);
-        h += 1;
-    }
-    s
+    (0..2 * n).filter(|h| !rim(edges, *h)).count()
 }
 
 // The amounts of a mesh. A halfedge of the rim is its edge's only one, so S and b make up all halfedges.
@@ -59,7 +39,7 @@ pub fn count_up(edges: &[u32], c: Counts) -> Amounts
         v: c.v,
         e: n,
         f: c.f,
-        s: s,
+        s,
         b: 2 * n - s,
     }
 }

@@ -28,7 +28,6 @@ use Rattle.mesh.specs.Rounds.{rim_at, rim_vertex_at, after}
 use Rattle.points_catmull.specs.Sums.{Halves, Starts, Outs, Inside}
 use Rattle.laws_catmull.proofs.Pass.{catmull-tally}
 use Rattle.laws_schemes.proofs.Catmull.{points-long}
-use Rattle.call_room.specs.declared.kind.Kind.{Kind}
 use Rattle.call_room.specs.declared.kind.Kind.TheVariants.{Catmull}
 use Rattle.call_room.proofs.KindLaws.{laws-of}
 use Rattle.links_edits.specs.Held.{given}
@@ -135,10 +134,6 @@ points-over : {A : Type 0} (z : A) (new ps work points : List A) (n : ℕ) → l
     over (take n (over new work)) points ≡ lay z new points
 points-over z new ps work points n e b l h =
     ap (λ k. over k points) (take-over new work n e b) ∙ ap (over new) h ∙ over-lay z new ps points (omega arith)
-
--- ---- the kind of scheme, while there is one
-pub alone : (kind : Kind) → kind ≡ Catmull
-alone Catmull = refl
 
 -- ---- before the first pass: Catmull-Clark prepares nothing
 pub prepares : {c : Counts} {outs edges faces : List ℕ} → PrepareReady Catmull c outs edges faces →

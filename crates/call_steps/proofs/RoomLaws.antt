@@ -4,6 +4,7 @@ use mathlib.Core.Path.{◌≡◌, refl, sym, ap, ◌∙◌, subst}
 use mathlib.Core.Bool.{Bool, true, false, not, ◌&&◌}
 use mathlib.Core.Logic.{◌≢◌}
 use mathlib.Core.List.{List}
+use Rattle.std.specs.Prelude.{Option, None, Some}
 use native.Mathlib.Omega.{arith}
 use borrow.Author.Tests.{le-leb, lt-leb}
 use lib.Dec.{leb}
@@ -21,8 +22,6 @@ use Rattle.call_room.specs.Ahead.{Whole, AheadOf, Told}
 use Rattle.call_room.specs.Kinds.{scheme_of}
 use Rattle.call_room.specs.declared.kind.Kind.{Kind}
 use Rattle.call_room.specs.declared.tally.Amounts.{Amounts}
-use Rattle.call_room.specs.declared.forecast.Ahead.{Ahead}
-use Rattle.call_room.specs.declared.forecast.Ahead.TheVariants.{Reached, Over}
 use Rattle.call_room.proofs.KindLaws.{laws-of}
 use Rattle.call_room.proofs.TallyLaws.{number-few}
 use Rattle.call_room.proofs.AheadLaws.{whole_ready}
@@ -77,16 +76,16 @@ module _ (kind : Kind) (k : ℕ) (flag : Bool) (z : k ≢ 0) (c : Counts) (es : 
         subst (λ (x : Tally). Faced x) (sym p) ((laws-of kind).ready_step (tallied (amounts_at c es)) f).faced,
       )
 
-  pub reached : {r : Ahead} {a : Amounts} {next : Bool} → Told (scheme_of kind) (k - 1) flag (tallied u) r → r ≡ Reached a next →
+  pub reached : {r : Option (Amounts × Bool)} {a : Amounts} {next : Bool} → Told (scheme_of kind) (k - 1) flag (tallied u) r → r ≡ Some (a, next) →
       Within (tallied a) × AheadOf (scheme_of kind) (k - 1) 0 flag next (readied (scheme_of kind) k (tallied (amounts_at c es))) (tallied a)
   reached {r} {a} {next} w q =
-      let w₁ : Told (scheme_of kind) (k - 1) flag (tallied u) (Reached a next) = subst (λ (x : Ahead). Told (scheme_of kind) (k - 1) flag (tallied u) x) q w in
+      let w₁ : Told (scheme_of kind) (k - 1) flag (tallied u) (Some (a, next)) = subst (λ (x : Option (Amounts × Bool)). Told (scheme_of kind) (k - 1) flag (tallied u) x) q w in
       subst (λ (x : Tally). Within (tallied a) × AheadOf (scheme_of kind) (k - 1) 0 flag next x (tallied a)) started w₁
 
-  pub passed_over : {r : Ahead} → Told (scheme_of kind) (k - 1) flag (tallied u) r → r ≡ Over →
+  pub passed_over : {r : Option (Amounts × Bool)} → Told (scheme_of kind) (k - 1) flag (tallied u) r → r ≡ None →
       (j : ℕ) → Within (tally (scheme_of kind) (k - 1 + j) flag (readied (scheme_of kind) k (tallied (amounts_at c es)))) → ⊥
   passed_over {r} w q =
-      let w₁ : Told (scheme_of kind) (k - 1) flag (tallied u) Over = subst (λ (x : Ahead). Told (scheme_of kind) (k - 1) flag (tallied u) x) q w in
+      let w₁ : Told (scheme_of kind) (k - 1) flag (tallied u) None = subst (λ (x : Option (Amounts × Bool)). Told (scheme_of kind) (k - 1) flag (tallied u) x) q w in
       subst (λ (x : Tally). (j : ℕ) → Within (tally (scheme_of kind) (k - 1 + j) flag x) → ⊥) started w₁
 
 -- ---- the ways to judge

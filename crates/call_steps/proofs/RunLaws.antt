@@ -3,7 +3,8 @@ use Prim.Native.Nat.{ℕ, zero, suc, ◌+◌, ◌-◌, ◌*◌, ◌≤◌, ◌<�
 use mathlib.Core.Path.{◌≡◌, refl, sym, ap, ◌∙◌, subst, subst⁻¹}
 use mathlib.Core.Bool.{Bool}
 use mathlib.Core.List.{List}
-use mathlib.Core.Option.{none, some}
+use Rattle.std.specs.Prelude.{None, Some, Result, Ok, Err}
+use Rattle.std.specs.Result.{MatchResult, IsErrAnd}
 use native.Mathlib.Omega.{arith}
 use lib.ListN.{length, take}
 use lib.Seq.{length-take-le}
@@ -12,7 +13,7 @@ use Rattle.scope.specs.declared.records.Counts.{Counts}
 use Rattle.scope.specs.Lists.{lay}
 use Rattle.scope.specs.Links.{Links}
 use Rattle.scope.specs.Tally.{Tally, tally_of, counts_of}
-use Rattle.scope.specs.Slices.{float_zero}
+use Rattle.scope.specs.Slices.{Buffers, float_zero}
 use Rattle.scope.specs.Call.{Scheme, links, points, tally, turned, heavy}
 use Rattle.mesh.proofs.SliceLaws.{length-lay}
 use Rattle.laws_call.specs.Laws.{Faced, Step, Laws}
@@ -23,8 +24,32 @@ use Rattle.call_room.proofs.KindLaws.{laws-of}
 use Rattle.links_edits.specs.Held.{given}
 use Rattle.links_edits.proofs.HeldLaws.{take-lay, lay-lay, held-lay, given-laid}
 use Rattle.call_steps.specs.Rooms.{needed}
-use Rattle.call_steps.specs.Passing.{Held, Roomy, Lies, PassReady, Goes, RunReady, Comes}
+use Rattle.call_steps.specs.Passing.{Held, Roomy, Lies, PassReady, Goes, RunReady, Comes, Stays}
 use Rattle.call_steps.proofs.PassLaws.{tally-v}
+
+-- ---- a result whose error was turned into another
+pub mapped-ok : {A E D : Type 0} (P : E → D → Type 0) (r : Result A E) (s : Result A D) {x : A} → MatchResult r (λ y. s ≡ Ok y) (λ e. IsErrAnd s (P e)) → s ≡ Ok x → r ≡ Ok x
+mapped-ok P (Ok y) s m e = cc
+mapped-ok P (Err f) (Ok y) m e = absurd m
+mapped-ok P (Err f) (Err d) m e = cc
+
+pub mapped-err : {A E D : Type 0} (P : E → D → Type 0) (r : Result A E) (s : Result A D) {d : D} → MatchResult r (λ y. s ≡ Ok y) (λ e. IsErrAnd s (P e)) → s ≡ Err d → (f : E) × (r ≡ Err f) × P f d
+mapped-err P (Ok y) s m e = cc
+mapped-err P (Err f) (Ok y) m e = absurd m
+mapped-err P (Err f) (Err d') {d} m e = let q : d' ≡ d = cc in (f, refl, subst (P f) q m)
+
+-- ---- what stays in a pass, and in the next
+pub stays-on : {x y z : Buffers} → Stays x y → Stays y z → Stays x z
+stays-on a b = record {
+  vmarks_stay = b.vmarks_stay ∙ a.vmarks_stay;
+  emarks_stay = b.emarks_stay ∙ a.emarks_stay;
+  fmarks_stay = b.fmarks_stay ∙ a.fmarks_stay;
+  outs_long = b.outs_long ∙ a.outs_long;
+  edges_long = b.edges_long ∙ a.edges_long;
+  faces_long = b.faces_long ∙ a.faces_long;
+  points_long = b.points_long ∙ a.points_long;
+  work_long = b.work_long ∙ a.work_long;
+}
 
 -- ---- room for what comes later is room for what comes before
 roomy-less : {s t : Tally} {outs edges faces : List ℕ} {ps : List Float} → Step s t → Roomy t outs edges faces ps → Roomy s outs edges faces ps
@@ -69,7 +94,7 @@ pub record Remain (S : Scheme) (k : ℕ) (flag : Bool) (m : Links) (ps : List Fl
 
 module _ {S : Scheme} {k : ℕ} {flag : Bool} {m : Links} {ps : List Float} {outs₀ edges₀ faces₀ : List ℕ} {points₀ work₀ : List Float}
     {n done : ℕ} {next : Bool} {x : Links} {qs : List Float} (r : Remain S k flag m ps outs₀ edges₀ faces₀ points₀ work₀ (suc n) done next x qs) where
-  one-done : S.weightless next x ≡ none → tally_of (S.pass next x) ≡ S.grow next (tally_of x) →
+  one-done : S.weightless next x ≡ None → tally_of (S.pass next x) ≡ S.grow next (tally_of x) →
       Remain S k flag m ps outs₀ edges₀ faces₀ points₀ work₀ n (suc done) (S.turn next) (S.pass next x) (S.smooth next x qs)
   unfolding links points turned heavy tally
   one-done e t = record {
@@ -81,7 +106,7 @@ module _ {S : Scheme} {k : ℕ} {flag : Bool} {m : Links} {ps : List Float} {out
     work_room = rw t (let a = needed-after S n next (tally_of x) in let b = r.work_room in omega arith);
   }
 
-  stops : {v : ℕ} → S.weightless next x ≡ some v → heavy S k 1 flag m ≡ some (suc done, v)
+  stops : {v : ℕ} → S.weightless next x ≡ Some v → heavy S k 1 flag m ≡ Some (suc done, v)
   unfolding heavy
   stops e = sym (rw e at r.heavy-left)
 
@@ -271,7 +296,7 @@ module _ {kind : Kind} {k : ℕ} {flag : Bool} {m : Links} {ps : List Float} {ou
           work-long = wl ∙ i.work-long;
         }
 
-    pub run-stops : {v : ℕ} → (scheme_of kind).weightless next (given d outs edges faces) ≡ some v → heavy (scheme_of kind) k 1 flag m ≡ some (done + 1, v)
+    pub run-stops : {v : ℕ} → (scheme_of kind).weightless next (given d outs edges faces) ≡ Some v → heavy (scheme_of kind) k 1 flag m ≡ Some (done + 1, v)
     run-stops {v} e =
         let a : done + 1 ≡ suc done = omega arith in
         rw a (stops remain (ap ((scheme_of kind).weightless next) (sym mesh-there) ∙ e))

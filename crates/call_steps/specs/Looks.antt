@@ -1,6 +1,5 @@
 -- Answers 1 to 4 of a subdivision call (document 01, section 4), which ask nothing of the scheme. Assumes nothing.
-use Rattle.std.specs.Prelude.{ℕ, zero, suc, ◌≤◌, not, List, ltb, length, take}
-use Rattle.std.proofs.Math.Option.{Option, none}
+use Rattle.std.specs.Prelude.{ℕ, zero, suc, ◌≤◌, not, List, ltb, length, take, Option, None}
 use Rattle.scope.specs.declared.records.Counts.{Counts}
 use Rattle.scope.specs.declared.answers.Place.{Place}
 use Rattle.scope.specs.declared.answers.Refusal.{Refusal}
@@ -24,7 +23,7 @@ deleted_in c vmarks emarks fmarks = refuse (marked (record { vs = take c.v vmark
 
 -- passes wanted and something is marked deleted
 abbrev pub unwanted_in : ℕ → Marks → Option Place
-unwanted_in zero d = none
+unwanted_in zero d = None
 unwanted_in (suc k) d = marked d
 
 unfoldable pub looked : ℕ → Counts → Slices → ℕ → Option Refusal

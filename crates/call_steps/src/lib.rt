@@ -2,6 +2,7 @@
 
 #![tactic(auto)]
 
+pub mod lent;
 pub mod look;
 pub mod passes;
 pub mod space;

@@ -8,27 +8,16 @@ ghost use Rattle.scope.specs.Tally.{counts_of};
 ghost use Rattle.call_room.specs.Kinds.{scheme_of};
 ghost use Rattle.call_room.specs.declared.kind.Kind.TheVariants.{Catmull};
 ghost use Rattle.links_edits.specs.Held.{given};
-ghost use Rattle.call_steps.specs.Passing.{PrepareReady, PassReady, Goes, Went, RunReady, WentOn};
+ghost use Rattle.call_steps.specs.Passing.{PrepareReady, PassReady, Goes, PassFrom, WentFrom, RunFrom, WentOnFrom, Stays};
+ghost use Rattle.call_steps.specs.Lent.{lent, SameSlices};
 
+use crate::lent::Buffers;
 use call_room::kind::{Kind, turn};
 use links_catmull::pass::catmull_links;
 use points_catmull::catmull::catmull_points;
+use scope::answers::Refusal;
 use scope::records::Counts;
-use slices::numbers::copy_numbers;
-
-// A pass that is done, with the counts after it; or the lowest vertex whose weight is needed and not there.
-#[derive(Clone, Copy)]
-pub enum Passed {
-    On(Counts),
-    NoWeightAt(u32),
-}
-
-// Passes that are done, with the counts and the flag after them; or the pass, counted from 1, that stopped, and its vertex.
-#[derive(Clone, Copy)]
-pub enum Ran {
-    Through(Counts, bool),
-    Stopped(u32, u32),
-}
+use slices::copies::copy;
 
 // What a scheme does to the links before its first pass. Answers the counts after it.
 pub fn prepare(
@@ -77,7 +66,8 @@ fn new_points(
     );
 }
 
-// One pass of Catmull-Clark. Answers the counts after it.
+// One pass of Catmull-Clark. Answers the counts after it. The slices stand apart here: the check covers no call that reads one slice of
+// what is lent and writes another (`new_points`).
 fn catmull_pass(
     update: bool,
     c: Counts,
@@ -92,54 +82,49 @@ fn catmull_pass(
 {
     new_points(outs, edges, faces, points, c, update, work);
     let d = catmull_links(outs, edges, faces, c);
-    copy_numbers(work, points, 3 * d.v);
+    copy(work, points, 3 * d.v);
     d
 }
 
-// One pass.
-fn pass(
-    kind: Kind,
-    flag: bool,
-    c: Counts,
-    outs: &mut [u32],
-    edges: &mut [u32],
-    faces: &mut [u32],
-    points: &mut [f64],
-    work: &mut [f64],
-) -> Passed
-    requires { PassReady kind flag c outs.old edges.old faces.old points.old work.old }
-    ensures { Went (scheme_of kind) flag (given c outs.old edges.old faces.old) (take (3 * c.v) points.old) outs.old edges.old faces.old points.old outs.new edges.new faces.new points.new result }
+// One pass. Answers the counts after it, or the lowest vertex whose weight is needed and not there.
+fn pass(kind: Kind, flag: bool, c: Counts, room: &mut Buffers<'_>) -> Result<Counts, u32>
+    requires { PassFrom kind flag c (lent room.old) }
+    ensures same_slices { SameSlices room.old room.new }
+    ensures stays { Stays (lent room.old) (lent room.new) }
+    ensures went { WentFrom (scheme_of kind) flag c (lent room.old) (lent room.new) result }
 {
     match kind {
-        Kind::Catmull => Passed::On(catmull_pass(flag, c, outs, edges, faces, points, work)),
+        Kind::Catmull => Ok(catmull_pass(
+            flag,
+            c,
+            room.outs,
+            room.edges,
+            room.faces,
+            room.points,
+            room.work,
+        )),
     }
 }
 
-// Passes one after the other, the first with this flag.
+// Passes one after the other, the first with this flag. Answers the counts and the flag after them, or the pass, counted from 1, that
+// stopped, and its vertex.
 pub fn run(
     kind: Kind,
     passes: u32,
     flag: bool,
     c: Counts,
-    outs: &mut [u32],
-    edges: &mut [u32],
-    faces: &mut [u32],
-    points: &mut [f64],
-    work: &mut [f64],
-) -> Ran
-    requires { RunReady kind passes flag c outs.old edges.old faces.old points.old work.old }
-    ensures { WentOn (scheme_of kind) passes flag (given c outs.old edges.old faces.old) (take (3 * c.v) points.old) outs.old edges.old faces.old points.old outs.new edges.new faces.new points.new result }
+    room: &mut Buffers<'_>,
+) -> Result<(Counts, bool), Refusal>
+    requires { RunFrom kind passes flag c (lent room.old) }
+    ensures same_slices { SameSlices room.old room.new }
+    ensures stays { Stays (lent room.old) (lent room.new) }
+    ensures went_on { WentOnFrom (scheme_of kind) passes flag c (lent room.old) (lent room.new) result }
 {
-    let mut done: u32 = 0;
     let mut d = c;
     let mut next = flag;
-    while done < passes {
-        match pass(kind, next, d, outs, edges, faces, points, work) {
-            Passed::NoWeightAt(v) => return Ran::Stopped(done + 1, v),
-            Passed::On(x) => d = x,
-        }
+    for n in 0..passes {
+        d = pass(kind, next, d, room).map_err(|v| Refusal::NoWeight(n + 1, v))?;
         next = turn(kind, next);
-        done += 1;
     }
-    Ran::Through(d, next)
+    Ok((d, next))
 }

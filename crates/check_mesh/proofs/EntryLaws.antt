@@ -1,8 +1,9 @@
 -- The laws of sizes, and of the answers of a check. Assumes nothing.
-use mathlib.Core.Path.{◌≡◌, refl, sym, ◌∙◌}
+use mathlib.Core.Path.{◌≡◌, refl, sym, ap, ◌∙◌, subst}
 use mathlib.Core.Bool.{Bool, true, false, not, ◌&&◌}
 use mathlib.Core.List.{List}
-use mathlib.Core.Option.{Option, none, some}
+use Rattle.std.specs.Prelude.{Option, None, Some, Result, Ok, Err}
+use Rattle.std.specs.Result.{MatchResult, IsErrAnd}
 use Prim.Native.Nat.{ℕ, ◌*◌}
 use native.Mathlib.Omega.{arith}
 use lib.Dec.{leb}
@@ -12,8 +13,7 @@ use Rattle.scope.specs.declared.records.Counts.{Counts}
 use Rattle.scope.specs.declared.answers.Fault.{Fault}
 use Rattle.scope.specs.declared.answers.Refusal.{Refusal}
 use Rattle.scope.specs.declared.answers.Refusal.TheVariants.{ShortSlice, NotConsistent}
-use Rattle.scope.specs.declared.answers.Checked.{Checked}
-use Rattle.scope.specs.declared.answers.Checked.TheVariants.{Sound, Unsound}
+use Rattle.scope.specs.Answers.{Checked}
 use Rattle.scope.specs.Lists.{◌or_else◌}
 use Rattle.scope.specs.Check.{fault}
 use Rattle.scope.specs.Slices.{Slices, sizes, fits, fits_with, links_of, marks_of}
@@ -22,7 +22,7 @@ use Rattle.laws_check.specs.Tells.{Tells}
 use Rattle.laws_check.proofs.Tells.{tells-map, t-le, t-and}
 use Rattle.check_rules.specs.Rule.{EdgesFit, ItemsFit}
 use Rattle.check_mesh.specs.Checked.{answered, say_of, checked_links, checked}
-use Rattle.check_mesh.specs.Stages.{Fits}
+use Rattle.check_mesh.specs.Stages.{Fits, told_of}
 
 -- two answers to one question
 pub tells-same : {a b : Bool} {P : Type 0} → Tells a P → Tells b P → a ≡ b
@@ -69,31 +69,31 @@ edges-used {l} {m} {n} i = record {
 
 -- ---- what a caller knows
 
-pub answered-sound : (o : Option Refusal) → answered o ≡ Sound → o ≡ none
-answered-sound none e = refl
-answered-sound (some r) e = let z : ◌≡◌ {A = ℕ} 0 1 = cc in absurd (omega arith)
+pub answered-sound : (o : Option Refusal) → answered o ≡ (Ok tt) → o ≡ None
+answered-sound None e = refl
+answered-sound (Some r) e = let z : ◌≡◌ {A = ℕ} 0 1 = cc in absurd (omega arith)
 
-pub answered-unsound : (o : Option Refusal) {r : Refusal} → answered o ≡ Unsound r → o ≡ some r
-answered-unsound none e = let z : ◌≡◌ {A = ℕ} 0 1 = cc in absurd (omega arith)
-answered-unsound (some q) e = cc
+pub answered-unsound : (o : Option Refusal) {r : Refusal} → answered o ≡ Err r → o ≡ Some r
+answered-unsound None e = let z : ◌≡◌ {A = ℕ} 0 1 = cc in absurd (omega arith)
+answered-unsound (Some q) e = cc
 
-sound-both : (b : Bool) (o : Option Fault) → answered (refuse_if (not b) ShortSlice or_else refuse o NotConsistent) ≡ Sound → (b ≡ true) × (o ≡ none)
-sound-both true none e = (refl, refl)
-sound-both true (some x) e = let z : ◌≡◌ {A = ℕ} 0 1 = cc in absurd (omega arith)
+sound-both : (b : Bool) (o : Option Fault) → answered (refuse_if (not b) ShortSlice or_else refuse o NotConsistent) ≡ (Ok tt) → (b ≡ true) × (o ≡ None)
+sound-both true None e = (refl, refl)
+sound-both true (Some x) e = let z : ◌≡◌ {A = ℕ} 0 1 = cc in absurd (omega arith)
 sound-both false o e = let z : ◌≡◌ {A = ℕ} 0 1 = cc in absurd (omega arith)
 
 -- a sound answer: the slices fit and there is no fault
-pub links-sound : (c : Counts) (s : Slices) → checked_links c s ≡ Sound → (fits c (sizes s) ≡ true) × (fault (links_of c s) (marks_of c s) ≡ none)
+pub links-sound : (c : Counts) (s : Slices) → checked_links c s ≡ (Ok tt) → (fits c (sizes s) ≡ true) × (fault (links_of c s) (marks_of c s) ≡ None)
 unfolding checked_links
 links-sound c s = sound-both (fits c (sizes s)) (fault (links_of c s) (marks_of c s))
 
-pub sound : (c : Counts) (s : Slices) (p : ℕ) → checked c s p ≡ Sound → (fits_with c (sizes s) p ≡ true) × (fault (links_of c s) (marks_of c s) ≡ none)
+pub sound : (c : Counts) (s : Slices) (p : ℕ) → checked c s p ≡ (Ok tt) → (fits_with c (sizes s) p ≡ true) × (fault (links_of c s) (marks_of c s) ≡ None)
 unfolding checked
 sound c s p = sound-both (fits_with c (sizes s) p) (fault (links_of c s) (marks_of c s))
 
 -- ---- the answers
 module _ (c : Counts) (s : Slices) where
-  pub links-short : {b : Bool} → b ≡ fits c (sizes s) → b ≡ false → Unsound ShortSlice ≡ checked_links c s
+  pub links-short : {b : Bool} → b ≡ fits c (sizes s) → b ≡ false → Err ShortSlice ≡ checked_links c s
   unfolding checked_links
   links-short {b} e q = rw (sym e, q)
 
@@ -101,11 +101,11 @@ module _ (c : Counts) (s : Slices) where
   unfolding checked_links
   links-fit {b} e q x = rw (sym e, q) x
 
-  pub points-short : (p : ℕ) → leb (3 * c.v) p ≡ false → Unsound ShortSlice ≡ checked c s p
+  pub points-short : (p : ℕ) → leb (3 * c.v) p ≡ false → Err ShortSlice ≡ checked c s p
   unfolding checked fits_with
   points-short p e = go (fits c (sizes s))
     where
-      go : (b : Bool) → Unsound ShortSlice ≡ answered (refuse_if (not (b && leb (3 * c.v) p)) ShortSlice or_else refuse (fault (links_of c s) (marks_of c s)) NotConsistent)
+      go : (b : Bool) → Err ShortSlice ≡ answered (refuse_if (not (b && leb (3 * c.v) p)) ShortSlice or_else refuse (fault (links_of c s) (marks_of c s)) NotConsistent)
       go true = rw (e) refl
       go false = refl
 
@@ -117,3 +117,12 @@ module _ (c : Counts) (s : Slices) where
           → r ≡ answered (refuse_if (not (b && leb (3 * c.v) p)) ShortSlice or_else refuse (fault (links_of c s) (marks_of c s)) NotConsistent)
       go true q = rw (e) q
       go false q = q
+
+-- a fault as the refusal of a mesh that is not consistent
+pub refused : (a : Option Fault) {r : Result (Unit {0}) Fault} {q : Checked} → r ≡ told_of a → MatchResult r (λ u. q ≡ Ok u) (λ x. IsErrAnd q (λ y. y ≡ NotConsistent x)) → q ≡ say_of a
+refused None {r} {q} e m = subst (λ (r : Result (Unit {0}) Fault). MatchResult r (λ u. q ≡ Ok u) (λ x. IsErrAnd q (λ y. y ≡ NotConsistent x))) e m
+refused (Some x) {r} {q} e m = go q (subst (λ (r : Result (Unit {0}) Fault). MatchResult r (λ u. q ≡ Ok u) (λ x. IsErrAnd q (λ y. y ≡ NotConsistent x))) e m)
+  where
+    go : (q : Checked) → IsErrAnd q (λ y. y ≡ NotConsistent x) → q ≡ Err (NotConsistent x)
+    go (Ok _) z = absurd z
+    go (Err y) z = ap Err z

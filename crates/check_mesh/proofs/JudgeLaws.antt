@@ -1,26 +1,20 @@
 -- What the first rules give the later ones, and what the search through the rules says: scope's `fault`. Assumes nothing.
-use mathlib.Core.Path.{◌≡◌, ap, ◌∙◌}
+use mathlib.Core.Path.{◌≡◌, refl, ap, ◌∙◌}
 use mathlib.Core.List.{List}
-use mathlib.Core.Option.{Option, some}
+use Rattle.std.specs.Prelude.{Option, None, Some, Result, Ok, Err, MatchOption}
 use Prim.Native.Nat.{ℕ, ◌*◌, ◌<◌}
 use Rattle.scope.specs.declared.answers.Place.{Place}
 use Rattle.scope.specs.declared.answers.Fault.{Fault}
-use Rattle.scope.specs.declared.answers.Refusal.TheVariants.{NotConsistent}
-use Rattle.scope.specs.declared.answers.Checked.{Checked}
-use Rattle.scope.specs.declared.answers.Checked.TheVariants.{Unsound}
 use Rattle.scope.specs.Links.{Links, Marks}
 use Rattle.scope.specs.Check.{fault}
 use Rattle.laws_check.specs.Judged.{Stage, broken_at, passed, Judged}
 use Rattle.laws_check.proofs.Tests.{judged-fault}
-use Rattle.check_rules.specs.Place.{Half, Live}
-use Rattle.check_rules.specs.Rule.{Chained, Faced, R1f, R1h, R1v, R2, R3, Rooted, Sewn}
-use Rattle.check_mesh.specs.Checked.{say_of}
-use Rattle.check_mesh.specs.Stages.{FromC1}
+use Rattle.check_rules.specs.Place.{First, Found, Half, Live}
+use Rattle.check_rules.specs.Rule.{Faced, R1f, R1h, R1v, R2, R3, Rooted, Sewn}
+use Rattle.check_rules.proofs.Searches.{found-all}
+use Rattle.check_mesh.specs.Stages.{FromC1, Passed, told_of}
 
 module _ {ed vm em fm : List ℕ} {v e f : ℕ} (h : (k : ℕ) → k < 2 * e → Half em e k → R1h ed vm em fm v e f k) where
-  pub chained-of : Chained ed em e
-  chained-of = record { next_in = λ x i. (h x i.0 i).next_ok; prev_in = λ x i. (h x i.0 i).prev_ok }
-
   pub sewn-of : ((k : ℕ) → k < 2 * e → Half em e k → R2 ed k) → ((k : ℕ) → k < 2 * e → Half em e k → R3 ed k) → Sewn ed em e
   sewn-of u t = record {
     next_in = λ x i. (h x i.0 i).next_ok;
@@ -61,11 +55,36 @@ judged-of m k =
     (λ e. e)))))))))))
 
 -- what is found is the fault
-pub says : (m : Links) (k : Marks) {a : Option Fault} {r : Checked} → r ≡ say_of a → FromC1 m k a → r ≡ say_of (fault m k)
-says m k e x = e ∙ ap say_of (judged-fault m k (judged-of m k x))
+pub says : (m : Links) (k : Marks) {a : Option Fault} {r : Result (Unit {0}) Fault} → r ≡ told_of a → FromC1 m k a → r ≡ told_of (fault m k)
+says m k e x = e ∙ ap told_of (judged-fault m k (judged-of m k x))
 
-pub says-broken : (m : Links) (k : Marks) {x : Fault} {r : Checked} → r ≡ Unsound (NotConsistent x) → FromC1 m k (some x) → r ≡ say_of (fault m k)
-says-broken m k e x = says m k e x
+-- ---- one search
 
-pub found : {S : Option Fault → Type 0} {x : Fault} {r : Checked} → r ≡ Unsound (NotConsistent x) → S (some x) → (a : Option Fault) × S a × (r ≡ say_of a)
-found {S} {x} e y = (some x, y, e)
+pub found-nothing : {Puts : ℕ → Place → Type 0} {rule : ℕ} {f : Option ℕ} {r : Result (Unit {0}) Fault} → Passed Puts rule f r → r ≡ Ok tt → f ≡ None
+found-nothing {Puts} {rule} {f} {r} p e = go f p.says
+  where
+    go : (f : Option ℕ) → MatchOption f (r ≡ Ok tt) (λ i. (p : Place) × Puts i p × (r ≡ Err (record { rule = rule; place = p }))) → f ≡ None
+    go None _ = refl
+    go (Some i) (_, _, w) = cc
+
+module _ {Puts : ℕ → Place → Type 0} {rule : ℕ} {place : ℕ → Place} {n : ℕ} {Ok' : ℕ → Type 0} {f : Option ℕ} {r : Result (Unit {0}) Fault} where
+  -- nothing was found: the rules after it say the rest
+  pub stage-on : {Rest : Option Fault → Type 0} {a : Option Fault} → Found Ok' n f → Passed Puts rule f r → r ≡ Ok tt → Rest a → Stage rule place n Ok' Rest a
+  stage-on d p e x = passed (found-all d (found-nothing p e)) x
+
+  -- the first place was found
+  pub stage-out : {Rest : Option Fault → Type 0} {x : Fault} → Found Ok' n f → Passed Puts rule f r → ((i : ℕ) (p : Place) → Puts i p → p ≡ place i) → r ≡ Err x → Stage rule place n Ok' Rest (Some x)
+  stage-out {Rest} {x} d p at e = go f d.finds p.says
+    where
+      go : (f : Option ℕ) → MatchOption f ((k : ℕ) → k < n → Ok' k) (First Ok' n) → MatchOption f (r ≡ Ok tt) (λ i. (p : Place) × Puts i p × (r ≡ Err (record { rule = rule; place = p }))) → Stage rule place n Ok' Rest (Some x)
+      go None _ w = cc
+      go (Some i) d (q, h, w) = let z = at i q h in broken_at i d.within d.before d.broken (cc)
+
+  -- the last rule
+  pub stage-end : Found Ok' n f → Passed Puts rule f r → ((i : ℕ) (p : Place) → Puts i p → p ≡ place i) → (a : Option Fault) × Stage rule place n Ok' (λ (a : Option Fault). a ≡ None) a × (r ≡ told_of a)
+  stage-end d p at = go f d.finds p.says
+    where
+      go : (f : Option ℕ) → MatchOption f ((k : ℕ) → k < n → Ok' k) (First Ok' n) → MatchOption f (r ≡ Ok tt) (λ i. (p : Place) × Puts i p × (r ≡ Err (record { rule = rule; place = p })))
+          → (a : Option Fault) × Stage rule place n Ok' (λ (a : Option Fault). a ≡ None) a × (r ≡ told_of a)
+      go None d w = (None, passed d refl, w)
+      go (Some i) d (q, h, w) = let z = at i q h in (Some (record { rule = rule; place = q }), broken_at i d.within d.before d.broken (cc), w)

@@ -1,12 +1,10 @@
 -- What a check answers (document 01, section 4, answers 2 and 3), for every input. Assumes nothing.
-use Rattle.std.specs.Prelude.{ℕ, not, List}
-use Rattle.std.proofs.Math.Option.{Option, none, some}
+use Rattle.std.specs.Prelude.{ℕ, not, List, Option, None, Some, Ok, Err}
 use Rattle.scope.specs.declared.records.Counts.{Counts}
 use Rattle.scope.specs.declared.answers.Fault.{Fault}
 use Rattle.scope.specs.declared.answers.Refusal.{Refusal}
 use Rattle.scope.specs.declared.answers.Refusal.TheVariants.{ShortSlice, NotConsistent}
-use Rattle.scope.specs.declared.answers.Checked.{Checked}
-use Rattle.scope.specs.declared.answers.Checked.TheVariants.{Sound, Unsound}
+use Rattle.scope.specs.Answers.{Checked}
 use Rattle.scope.specs.Lists.{◌or_else◌}
 use Rattle.scope.specs.Links.{Links, Marks}
 use Rattle.scope.specs.Check.{fault}
@@ -14,8 +12,8 @@ use Rattle.scope.specs.Slices.{Slices, sizes, fits, fits_with, links_of, marks_o
 use Rattle.scope.specs.Answers.{refuse_if, refuse}
 
 abbrev pub answered : Option Refusal → Checked
-answered none = Sound
-answered (some r) = Unsound r
+answered None = (Ok tt)
+answered (Some r) = Err r
 
 -- what is said of a mesh with this fault
 abbrev pub say_of : Option Fault → Checked

@@ -1,6 +1,6 @@
 -- What the search through the rules finds, in the words of its functions: laws_check' `Judged` over lists. Assumes nothing.
-use Rattle.std.specs.Prelude.{◌≡◌, ℕ, ◌*◌}
-use Rattle.std.proofs.Math.Option.{Option, none}
+use Rattle.std.specs.Prelude.{◌≡◌, ℕ, ◌*◌, Option, None, Some, Result, Ok, Err, MatchOption}
+use Rattle.scope.specs.declared.answers.Place.{Place}
 use Rattle.scope.specs.declared.answers.Place.TheVariants.{AtVertex, AtHalfedge, AtFace}
 use Rattle.scope.specs.declared.answers.Fault.{Fault}
 use Rattle.scope.specs.declared.records.Counts.{Counts}
@@ -29,7 +29,7 @@ FromC4 m k =
     (Stage 7 AtFace m.nf (OnF (R7 m.edges k.es m.faces m.ne) m k)
     (Stage 8 AtVertex m.nv (OnV (R8 m.edges k.es m.outs m.ne) m k)
     (Stage 9 AtVertex m.nv (OnV (R9 m.edges k.es m.outs m.ne) m k)
-    (λ (a : Option Fault). a ≡ none))))))
+    (λ (a : Option Fault). a ≡ None))))))
 
 -- C1 to C9
 abbrev pub FromC1 : Links → Marks → Option Fault → Type 0
@@ -40,6 +40,15 @@ FromC1 m k =
     (Stage 2 AtHalfedge (2 * m.ne) (OnH (R2 m.edges) m k)
     (Stage 3 AtHalfedge (2 * m.ne) (OnH (R3 m.edges) m k)
     (FromC4 m k)))))
+
+-- nothing, or a fault
+abbrev pub told_of : Option Fault → Result (Unit {0}) Fault
+told_of None = Ok tt
+told_of (Some x) = Err x
+
+-- what is said of a search: nothing, or the rule with the place that was put to what it found
+pub record Passed (Puts : ℕ → Place → Type 0) (rule : ℕ) (found : Option ℕ) (r : Result (Unit {0}) Fault) : Type 0 where
+  pub says : MatchOption found (r ≡ Ok tt) (λ i. (p : Place) × Puts i p × (r ≡ Err (record { rule = rule; place = p })))
 
 -- the slices have what the counts ask for, and no count is over 1,048,576
 pub record Fits (c : Counts) (s : Slices) : Type 0 where

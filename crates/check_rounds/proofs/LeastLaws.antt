@@ -2,6 +2,7 @@
 use mathlib.Core.Path.{◌≡◌, refl, sym, ◌∙◌, subst⁻¹}
 use mathlib.Core.Logic.{◌⊎◌, inl, inr, ◌≢◌}
 use mathlib.Core.List.{List}
+use Rattle.std.specs.Prelude.{Option, None, Some, MatchOption}
 use Prim.Native.Nat.{ℕ, zero, suc, ◌*◌, ◌<◌}
 use native.Mathlib.Omega.{arith}
 use native.Mathlib.Decide.{dec_lt}
@@ -9,10 +10,10 @@ use Rattle.scope.specs.Links.{NONE}
 use Rattle.mesh.specs.Words.{face_at, link_at, next_at, tail_at, turn_at}
 use Rattle.laws_mesh.specs.Reach.{Reach, here, iter}
 use Rattle.laws_mesh.proofs.Cycle.{First, first, Perm, iter-in, iter-reach, reach-bound, reach-in, reach-ind, reach-sym, reach-trans}
-use Rattle.check_rules.specs.Place.{Half, Low}
+use Rattle.check_rules.specs.Place.{Half, Low, Lowest}
 use Rattle.check_rules.specs.Rule.{OnLoop, OnTurn, Sewn}
 use Rattle.check_rounds.specs.Tour.{Least, LedLoop, LedTurn}
-use Rattle.check_rounds.proofs.WalkLaws.{perm-next, perm-turn}
+use Rattle.check_rounds.specs.Steps.{perm-next, perm-turn}
 use Rattle.check_rounds.proofs.TourLaws.{turn-tail}
 
 module _ {P : ℕ → Type 0} {n : ℕ} {f g : ℕ → ℕ} (m : Perm P n f g) where
@@ -28,17 +29,24 @@ module _ {P : ℕ → Type 0} {n : ℕ} {f g : ℕ → ℕ} (m : Perm P n f g) w
   least-of {a} p = down (suc a) a (omega arith) p
 
   -- the lowest place, looked for at the least of each cycle only
-  pub low-led : {Q : ℕ → Type 0} {place : ℕ → ℕ} {limit r : ℕ} → ((a b : ℕ) → P a → Reach f a b → (place b ≡ place a) × (Q b → Q a))
+  pub low-led : {Q : ℕ → Type 0} {place : ℕ → ℕ} {limit : ℕ} {r : Option ℕ} → ((a b : ℕ) → P a → Reach f a b → (place b ≡ place a) × (Q b → Q a))
       → Low (λ k. P k → Least f k → Q k) place n limit r → Low (λ k. P k → Q k) place n limit r
-  low-led {Q} same l = record {
-    within = l.within;
-    before = λ k i h p.
-        let (b, u, q) = least-of p in
-        let (e, back) = same k b p u in
-        let p' = reach-in m p u in
-        back (l.before b (m.below b p') (omega arith) p' q);
-    broken = λ h. let (k, i, e, x) = l.broken h in (k, i, e, λ ok. x (λ p _. ok p));
-  }
+  low-led {Q} {place} {limit} {r} same l = record { finds = go r l.finds }
+    where
+      led : (k : ℕ) → P k → ((b : ℕ) → P b → place b ≡ place k → Least f b → Q b) → Q k
+      led k p h =
+          let (b, u, q) = least-of p in
+          let (e, back) = same k b p u in
+          back (h b (reach-in m p u) e q)
+
+      go : (r : Option ℕ) → MatchOption r ((k : ℕ) → k < n → place k < limit → P k → Least f k → Q k) (Lowest (λ k. P k → Least f k → Q k) place n limit)
+          → MatchOption r ((k : ℕ) → k < n → place k < limit → P k → Q k) (Lowest (λ k. P k → Q k) place n limit)
+      go None l = λ k i h p. led k p (λ b p' e q. l b (m.below b p') (omega arith) p' q)
+      go (Some x) l = record {
+        within = l.within;
+        before = λ k i h p. led k p (λ b p' e q. l.before b (m.below b p') (omega arith) p' q);
+        broken = let (k, i, e, not) = l.broken in (k, i, e, λ ok. not (λ p _. ok p));
+      }
 
 module _ {ed em : List ℕ} {e : ℕ} (s : Sewn ed em e) where
   loop-same : (fl : List ℕ) (a b : ℕ) → Half em e a → Reach (next_at ed) a b
@@ -58,8 +66,8 @@ module _ {ed em : List ℕ} {e : ℕ} (s : Sewn ed em e) where
         ),
       )
 
-  pub loops-led : (fl : List ℕ) {nf r : ℕ} → Low (λ (k : ℕ). LedLoop ed em fl e k) (λ (k : ℕ). face_at ed k) (2 * e) nf r → Low (λ (k : ℕ). OnLoop ed em fl e k) (λ (k : ℕ). face_at ed k) (2 * e) nf r
+  pub loops-led : (fl : List ℕ) {nf : ℕ} {r : Option ℕ} → Low (λ (k : ℕ). LedLoop ed em fl e k) (λ (k : ℕ). face_at ed k) (2 * e) nf r → Low (λ (k : ℕ). OnLoop ed em fl e k) (λ (k : ℕ). face_at ed k) (2 * e) nf r
   loops-led fl = low-led (perm-next s) (loop-same fl)
 
-  pub turns-led : (ol : List ℕ) {nv r : ℕ} → Low (λ (k : ℕ). LedTurn ed em ol e k) (λ (k : ℕ). tail_at ed k) (2 * e) nv r → Low (λ (k : ℕ). OnTurn ed em ol e k) (λ (k : ℕ). tail_at ed k) (2 * e) nv r
+  pub turns-led : (ol : List ℕ) {nv : ℕ} {r : Option ℕ} → Low (λ (k : ℕ). LedTurn ed em ol e k) (λ (k : ℕ). tail_at ed k) (2 * e) nv r → Low (λ (k : ℕ). OnTurn ed em ol e k) (λ (k : ℕ). tail_at ed k) (2 * e) nv r
   turns-led ol = low-led (perm-turn s) (turn-same ol)

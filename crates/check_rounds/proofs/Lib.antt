@@ -3,3 +3,4 @@ pub mod RoundLaws
 pub mod RuleLaws
 pub mod TourLaws
 pub mod LeastLaws
+pub mod AskLaws

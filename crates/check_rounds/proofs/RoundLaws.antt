@@ -15,7 +15,7 @@ use Rattle.laws_check.specs.Tells.{Tells}
 use Rattle.laws_check.proofs.Rounds.{same, length_run, round-cycle, t-has-round}
 use Rattle.check_rules.specs.Place.{Half}
 use Rattle.check_rules.specs.Rule.{Sewn}
-use Rattle.check_rounds.proofs.WalkLaws.{perm-next, perm-turn}
+use Rattle.check_rounds.specs.Steps.{perm-next, perm-turn}
 
 cycle-long : {P : ℕ → Type 0} {n : ℕ} {f g : ℕ → ℕ} (m : Perm P n f g) {a : ℕ} → P a → {k : ℕ} → k ≡ length (round a f n a) → (k ≤ n) × Length f a k
 cycle-long {P} {n} {f} m {a} p q =

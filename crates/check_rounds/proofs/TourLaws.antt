@@ -11,14 +11,16 @@ use lib.ListN.{get_or}
 use Rattle.mesh.proofs.PartnerLaws.{partner-partner}
 use Rattle.mesh.specs.Words.{face_at, head_at, link_at, next_at, prev_at, tail_at, turn_at}
 use Rattle.check_rounds.proofs.RuleLaws.{rule-8}
-use Rattle.check_rounds.proofs.WalkLaws.{perm-next, perm-turn}
+use Rattle.check_rounds.specs.Steps.{perm-next, perm-turn}
 use Rattle.check_rounds.specs.Tour.{AllLeave, AllOnLoop, LoopTour, Spun, Tour, TurnTour, Turned, Walk, bearing, spin_at, unmarked}
 use Rattle.check_rules.proofs.HalfLaws.{half-partner}
 use Rattle.check_rules.specs.Place.{Found, Half, Live, Low}
 use Rattle.check_rules.specs.Rule.{Bears, R8, Rooted, Sewn}
 use Rattle.scope.specs.Links.{NONE, partner}
 use Rattle.scope.specs.Lists.{number_of}
-use Rattle.laws_mesh.proofs.Count.{Length, Some, count-some, some-all}
+use Rattle.laws_mesh.proofs.Count.{Length, count-some, some-all}
+use Rattle.laws_mesh.proofs.Count as counts
+use Rattle.std.specs.Prelude.{None}
 use Rattle.laws_mesh.proofs.Cycle.{Perm, cancel, iter-front, iter-in, iter-reach, reach-one, reach-sim, reach-sym, reach-trans, reach-within}
 use Rattle.laws_mesh.specs.Count.{bit, count}
 use Rattle.laws_mesh.specs.Reach.{Reach, iter}
@@ -78,7 +80,7 @@ module _ {p : ℕ → Bool} {place : ℕ → ℕ} {Met : ℕ → Type 0} {n : �
     met = r.met;
   }
 
-  tour-some : {u t : ℕ} (r : Tour p place Met n u t) → Some p n t r.seq
+  tour-some : {u t : ℕ} (r : Tour p place Met n u t) → counts.Some p n t r.seq
   tour-some r = record { in_range = r.in_range; passes = r.passes; differ = r.differ }
 
   -- no more than n
@@ -184,8 +186,8 @@ loop-whole ed em fl r q = record { on_loop = λ k l i n. tour-all r (sym q) k l 
 pub turn-whole : {ed em ol vm : List ℕ} {e v u t : ℕ} → AllLeave ed ol vm v → TurnTour ed em ol e u t → t ≡ count (unmarked em) (2 * e) → Turned ed em ol vm e v
 turn-whole {ed} {em} a r q = record { leave = a.leave; on_turn = λ k l i. tour-all r (sym q) k l (unmarked-T em k i.1) }
 
-pub low-none : {Ok : ℕ → Type 0} {place : ℕ → ℕ} {n limit : ℕ} → ((k : ℕ) → k < n → Ok k) → Low Ok place n limit limit
-low-none a = record { within = omega arith; before = λ k l _. a k l; broken = λ q. absurd (omega arith) }
+pub low-none : {Ok : ℕ → Type 0} {place : ℕ → ℕ} {n limit : ℕ} → ((k : ℕ) → k < n → Ok k) → Low Ok place n limit None
+low-none a = record { finds = λ k i _. a k i }
 
 -- a walk that comes back has met every other with a's key
 pub only_at : {f key : ℕ → ℕ} {a n left x b : ℕ} → Walk f (λ y. (y ≢ a) × (key y ≢ key a)) (f a) n left x → x ≡ a → Reach f a b → key b ≡ key a → b ≡ a
@@ -198,8 +200,8 @@ only_at {f} {key} {a} {n} {left} {x} {b} w q r z = go (reach-within w.steps (ite
 pub spun : {ed em ol vm : List ℕ} {e nv : ℕ} → Sewn ed em e → Rooted ed em ol vm e nv → Turned ed em ol vm e nv → Spun ed em e
 spun s g t = record { spin = spins s g t }
 
-pub turned-8 : {ed em ol vm : List ℕ} {e nv : ℕ} → Rooted ed em ol vm e nv → Turned ed em ol vm e nv → Found (λ (k : ℕ). Live vm nv k → R8 ed em ol e k) nv nv
-turned-8 g t = rule-8 g (record { within = omega arith; before = t.leave; broken = λ q. absurd (omega arith) }) (low-none t.on_turn) (record { le = omega arith; at_most = λ _. omega arith; either = inl refl })
+pub turned-8 : {ed em ol vm : List ℕ} {e nv : ℕ} → Rooted ed em ol vm e nv → Turned ed em ol vm e nv → Found (λ (k : ℕ). Live vm nv k → R8 ed em ol e k) nv None
+turned-8 g t = rule-8 {a = None} {b = None} {r = None} g (record { finds = t.leave }) (low-none t.on_turn) (record { at_most_a = λ x e. cc; at_most_b = λ x e. cc; either = inl refl })
 
 -- the turn around a's head closes
 pub perm-spin : {ed em : List ℕ} {e : ℕ} → Sewn ed em e → Perm (Half em e) (2 * e) (spin_at ed) (λ h. partner (next_at ed h))

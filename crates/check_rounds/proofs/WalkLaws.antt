@@ -1,19 +1,19 @@
 -- The laws of walks. Assumes nothing.
-use mathlib.Core.Path.{◌≡◌, refl, sym, ap, ◌∙◌, subst, subst⁻¹}
+use mathlib.Core.Path.{◌≡◌, refl, ap, subst, subst⁻¹}
 use mathlib.Core.Logic.{◌⊎◌, inl, inr, ◌≢◌}
 use mathlib.Core.List.{List}
-use Prim.Native.Nat.{ℕ, zero, suc, ◌-◌, ◌*◌, ◌≤◌, ◌<◌}
+use Prim.Native.Nat.{ℕ, zero, suc, ◌-◌, ◌≤◌, ◌<◌}
 use native.Mathlib.Omega.{arith}
 use Rattle.laws_check.proofs.Tells.{tells-map}
 use Rattle.laws_check.specs.Tells.{Tells}
-use Rattle.mesh.proofs.PartnerLaws.{partner-partner}
-use Rattle.mesh.specs.Words.{face_at, head_at, link_at, next_at, prev_at, tail_at, turn_at}
-use Rattle.check_rounds.specs.Tour.{Least, Walk}
+use Rattle.mesh.specs.Words.{face_at, link_at, next_at, tail_at, turn_at}
+use Rattle.check_rounds.specs.Steps.{perm-next, perm-turn}
+use Rattle.check_rounds.specs.Tour.{Walk}
 use Rattle.check_rules.proofs.HalfLaws.{half-partner}
 use Rattle.check_rules.specs.Place.{Half, Live}
-use Rattle.check_rules.specs.Rule.{Faced, Looped, OnLoop, OnTurn, Rooted, Sewn}
+use Rattle.check_rules.specs.Rule.{Faced, OnLoop, OnTurn, Rooted, Sewn}
 use Rattle.scope.specs.Links.{NONE, partner}
-use Rattle.laws_mesh.proofs.Cycle.{Perm, iter-front, iter-reach, reach-bound, reach-one, reach-sym, reach-within, split}
+use Rattle.laws_mesh.proofs.Cycle.{Perm, reach-bound, reach-one, reach-sym, split}
 use Rattle.laws_mesh.specs.Reach.{Reach, iter}
 use mathlib.Core.Bool.{Bool}
 
@@ -29,53 +29,11 @@ module _ {f : ℕ → ℕ} {Miss : ℕ → Type 0} {b n : ℕ} where
     missed = λ i h. split i w.steps (λ e. subst⁻¹ (λ (j : ℕ). Miss (iter f j b)) e (subst⁻¹ Miss w.here m)) (λ ne. w.missed i (omega arith));
   }
 
-  pub walk-reach : {left x : ℕ} → Walk f Miss b n left x → Reach f b x
-  walk-reach {left} {x} w = subst (λ (y : ℕ). Reach f b y) w.here (iter-reach f b w.steps)
-
 -- n steps from f a cannot miss a
 pub walk-closed : {P : ℕ → Type 0} {f g : ℕ → ℕ} {Q : ℕ → Type 0} {a n left x : ℕ} → Perm P n f g → P a → Walk f (λ y. (y ≢ a) × Q y) (f a) n left x → left ≤ 0 → ⊥
 walk-closed {P} {f} {g} {Q} {a} p i w l =
     let (k, h, q) = reach-bound p (p.fore a i) (reach-sym p i (reach-one {f = f} {a = a} refl)) in
     (w.missed k (let z = w.all in omega arith)).0 q
-
--- a walk from f a that comes back to a has met no lower number
-pub least_at : {f : ℕ → ℕ} {a n left x : ℕ} → Walk f (λ y. (y ≢ a) × (a ≤ y)) (f a) n left x → x ≡ a → Least f a
-least_at {f} {a} w q b r = go (reach-within w.steps (iter-front f a w.steps ∙ w.here ∙ q) r)
-  where
-    go : (k : ℕ) × (k ≤ w.steps) × (iter f k a ≡ b) → a ≤ b
-    go (zero, l, e) = omega arith
-    go (suc k, l, e) =
-        let m = (w.missed k l).1 in
-        let z : iter f k (f a) ≡ b = sym (iter-front f a k) ∙ e in
-        omega arith
-
--- ---- the two walks of a mesh
-
-module _ {ed em : List ℕ} {e : ℕ} (s : Sewn ed em e) where
-  pub perm-next : Perm (Half em e) (2 * e) (next_at ed) (prev_at ed)
-  perm-next = record { below = λ x i. i.0; fore = s.next_in; back = s.prev_in; gf = s.prev_next; fg = s.next_prev }
-
-  pub turn_in : (h : ℕ) → Half em e h → Half em e (turn_at ed h)
-  turn_in h i = half-partner em e (prev_at ed h) (s.prev_in h i)
-
-  pub perm-turn : Perm (Half em e) (2 * e) (turn_at ed) (λ h. next_at ed (partner h))
-  perm-turn = record {
-    below = λ x i. i.0;
-    fore = turn_in;
-    back = λ x i. s.next_in (partner x) (half-partner em e x i);
-    gf = λ x i. cc (partner-partner (prev_at ed x), s.next_prev x i);
-    fg = λ x i. cc (s.prev_next (partner x) (half-partner em e x i), partner-partner x);
-  }
-
-  -- a loop that closes without another halfedge of this head
-  pub alone_at : {a n left x : ℕ} → Looped ed em e → Half em e a
-      → Walk (next_at ed) (λ y. (y ≢ a) × (head_at ed y ≢ head_at ed a)) (next_at ed a) n left x → x ≡ a
-      → face_at ed a ≢ NONE → (b : ℕ) → Half em e b → face_at ed b ≡ face_at ed a → head_at ed b ≡ head_at ed a → b ≡ a
-  alone_at {a} {n} {left} {x} lo i w q f b j p r = go (reach-within w.steps (iter-front (next_at ed) a w.steps ∙ w.here ∙ q) (lo.one_loop a b i j f p))
-    where
-      go : (k : ℕ) × (k ≤ w.steps) × (iter (next_at ed) k a ≡ b) → b ≡ a
-      go (zero, l, z) = sym z
-      go (suc k, l, z) = absurd ((w.missed k l).1 (ap (head_at ed) (sym (iter-front (next_at ed) a k) ∙ z) ∙ r))
 
 -- ---- what a walk's answer says of its halfedge
 

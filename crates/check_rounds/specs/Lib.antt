@@ -1,1 +1,3 @@
 pub mod Tour
+pub mod Steps
+pub mod OnMesh

@@ -1,5 +1,5 @@
 -- Walks, and tours: the loops of all faces or the turns of all vertices so far, one after the other. Assumes nothing.
-use Rattle.std.specs.Prelude.{◌≡◌, Bool, not, ◌&&◌, List, ◌≢◌, ℕ, ◌+◌, ◌*◌, ◌/◌, ◌≤◌, ◌<◌, T, eqb, get_or}
+use Rattle.std.specs.Prelude.{◌≡◌, Bool, not, ◌&&◌, ◌||◌, List, ◌≢◌, ℕ, ◌*◌, ◌/◌, ◌≤◌, ◌<◌, T, eqb, get_or, ◌+◌}
 use Rattle.mesh.specs.Words.{face_at, head_at, link_at, next_at, prev_at, tail_at, turn_at}
 use Rattle.check_rules.specs.Place.{Half, Live}
 use Rattle.check_rules.specs.Rule.{Bears, Leaves, OnLoop, OnTurn}
@@ -31,6 +31,10 @@ unmarked em h = eqb (get_or em (h / 2) 0) 0
 -- and it bears a face
 abbrev pub bearing : List ℕ → List ℕ → ℕ → Bool
 bearing ed em h = unmarked em h && not (eqb (face_at ed h) NONE)
+
+-- x is a, or has another head
+abbrev pub apart_at : List ℕ → ℕ → ℕ → Bool
+apart_at ed a x = eqb x a || not (eqb (head_at ed x) (head_at ed a))
 
 -- t different numbers below n that pass the test; each has a place below `upto` and is met
 pub record Tour (p : ℕ → Bool) (place : ℕ → ℕ) (Met : ℕ → Type 0) (n upto t : ℕ) : Type 0 where

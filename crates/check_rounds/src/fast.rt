@@ -1,214 +1,128 @@
 // C4 and C8 as a whole, by counting: where the loops of all faces are together as long as the halfedges with a face are many, they hold them all.
 
-ghost use Rattle.std.specs.Prelude.{◌≡◌, true, length, ℕ, ◌+◌, ◌*◌, ◌<◌, ◌≤◌};
-ghost use Rattle.mesh.specs.Words.{face_at};
-ghost use Rattle.check_rounds.specs.Tour.{AllBear, AllLeave, LoopTour, TurnTour, Turned, bearing, unmarked};
-ghost use Rattle.check_rules.specs.Place.{Low};
-ghost use Rattle.check_rules.specs.Rule.{EdgesFit, Faced, ItemsFit, OnLoop, Rooted, Sewn};
+ghost use Rattle.std.specs.Prelude.{◌≡◌, true, ℕ, ◌+◌, ◌*◌, ◌<◌};
+ghost use Rattle.check_rounds.specs.OnMesh.{FaceTour, FacesBear, IsOnLoop, IsTurned, LowFace, VertexTour, VerticesLeave};
+ghost use Rattle.check_rounds.specs.Tour.{bearing, unmarked};
 ghost use Rattle.laws_mesh.specs.Count.{bit, count};
 
 use crate::low::lowest_off_loop;
-use check_rules::scan::all_leave;
-use check_rules::there::live;
-use mesh::half::{NONE, face, next, turn};
+use check_rules::states::{Mesh, SewnMesh};
+use mesh::half::NONE;
 use mesh_walk::lengths::{loop_length, turn_length};
 
 // What face f adds to a tour of the faces before it.
-fn face_length(
-    edges: &[u32],
-    emarks: &[u8],
-    faces: &[u32],
-    fmarks: &[u8],
-    ne: u32,
-    nf: u32,
-    f: u32,
-) -> u32
-    requires edges_fit { EdgesFit edges.now emarks.now ne }
-    requires items_fit { ItemsFit faces.now fmarks.now nf }
-    requires sewn { Sewn edges.now emarks.now ne }
-    requires faced { Faced edges.now emarks.now faces.now fmarks.now ne nf }
-    requires all_bear { AllBear edges.now faces.now fmarks.now nf }
-    requires f_lt_nf { f < nf }
-    ensures { (t : ℕ) → LoopTour edges.now emarks.now faces.now ne f t → LoopTour edges.now emarks.now faces.now ne (f + 1) (t + result) }
+fn face_length(m: &SewnMesh, f: u32) -> usize
+    requires all_bear { FacesBear m.now.mesh }
+    requires f_lt_nf { f < m.now.mesh.nf }
+    ensures { (t : ℕ) → FaceTour m.now.mesh f t → FaceTour m.now.mesh (f + 1) (t + result) }
 {
-    if !live(fmarks, nf, f) {
+    let m = &m.mesh;
+    if !m.live_face(f) {
         return 0;
     }
-    loop_length(edges, ne as usize, faces[f as usize]) as u32
+    loop_length(m.edges, m.ne as usize, m.faces[f as usize])
 }
 
 // What vertex v adds to a tour of the vertices before it.
-fn vertex_length(
-    edges: &[u32],
-    emarks: &[u8],
-    outs: &[u32],
-    vmarks: &[u8],
-    ne: u32,
-    nv: u32,
-    v: u32,
-) -> u32
-    requires edges_fit { EdgesFit edges.now emarks.now ne }
-    requires items_fit { ItemsFit outs.now vmarks.now nv }
-    requires sewn { Sewn edges.now emarks.now ne }
-    requires rooted { Rooted edges.now emarks.now outs.now vmarks.now ne nv }
-    requires all_leave { AllLeave edges.now outs.now vmarks.now nv }
-    requires v_lt_nv { v < nv }
-    ensures { (t : ℕ) → TurnTour edges.now emarks.now outs.now ne v t → TurnTour edges.now emarks.now outs.now ne (v + 1) (t + result) }
+fn vertex_length(m: &SewnMesh, v: u32) -> usize
+    requires all_leave { VerticesLeave m.now.mesh }
+    requires v_lt_nv { v < m.now.mesh.nv }
+    ensures { (t : ℕ) → VertexTour m.now.mesh v t → VertexTour m.now.mesh (v + 1) (t + result) }
 {
-    if !live(vmarks, nv, v) {
+    let m = &m.mesh;
+    if !m.live_vertex(v) {
         return 0;
     }
-    let h = outs[v as usize];
+    let h = m.outs[v as usize];
     if h == NONE {
         return 0;
     }
-    turn_length(edges, ne as usize, h) as u32
+    turn_length(m.edges, m.ne as usize, h)
 }
 
-// The length of all faces' loops.
-fn faces_total(edges: &[u32], emarks: &[u8], faces: &[u32], fmarks: &[u8], ne: u32, nf: u32) -> u32
-    requires edges_fit { EdgesFit edges.now emarks.now ne }
-    requires items_fit { ItemsFit faces.now fmarks.now nf }
-    requires sewn { Sewn edges.now emarks.now ne }
-    requires faced { Faced edges.now emarks.now faces.now fmarks.now ne nf }
-    requires all_bear { AllBear edges.now faces.now fmarks.now nf }
-    ensures { LoopTour edges.now emarks.now faces.now ne nf result }
+// The length of all faces' loops. This and the next stand apart: over a tour of either kind, one loop would be handed the tour, its length and its step.
+fn faces_total(m: &SewnMesh) -> usize
+    requires { FacesBear m.now.mesh }
+    ensures { FaceTour m.now.mesh m.now.mesh.nf result }
 {
     let mut total = 0;
-    let mut k = 0;
-    while k < nf {
-        total += face_length(edges, emarks, faces, fmarks, ne, nf, k);
-        k += 1;
+    for f in 0..m.mesh.nf {
+        total += face_length(m, f);
     }
     total
 }
 
 // The length of all vertices' turns.
-fn vertices_total(
-    edges: &[u32],
-    emarks: &[u8],
-    outs: &[u32],
-    vmarks: &[u8],
-    ne: u32,
-    nv: u32,
-) -> u32
-    requires edges_fit { EdgesFit edges.now emarks.now ne }
-    requires items_fit { ItemsFit outs.now vmarks.now nv }
-    requires sewn { Sewn edges.now emarks.now ne }
-    requires rooted { Rooted edges.now emarks.now outs.now vmarks.now ne nv }
-    requires all_leave { AllLeave edges.now outs.now vmarks.now nv }
-    ensures { TurnTour edges.now emarks.now outs.now ne nv result }
+fn vertices_total(m: &SewnMesh) -> usize
+    requires { VerticesLeave m.now.mesh }
+    ensures { VertexTour m.now.mesh m.now.mesh.nv result }
 {
     let mut total = 0;
-    let mut k = 0;
-    while k < nv {
-        total += vertex_length(edges, emarks, outs, vmarks, ne, nv, k);
-        k += 1;
+    for v in 0..m.mesh.nv {
+        total += vertex_length(m, v);
     }
     total
 }
 
 // One for a halfedge that is there.
-fn half_bit(emarks: &[u8], ne: u32, h: u32) -> u32
-    requires ne_in_bounds { ne ≤ length emarks.now }
-    requires h_bound { h < 2 * ne }
-    ensures { result ≡ bit (unmarked emarks.now h) }
+fn half_bit(m: &Mesh, h: u32) -> usize
+    requires { h < 2 * m.now.ne }
+    ensures { result ≡ bit (unmarked m.now.emarks.now h) }
 {
-    if emarks[(h / 2) as usize] == 0 {
-        return 1;
+    if m.emarks[(h / 2) as usize] == 0 {
+        1
+    } else {
+        0
     }
-    0
 }
 
 // One for a halfedge that is there and bears a face.
-fn bearing_bit(edges: &[u32], emarks: &[u8], ne: u32, h: u32) -> u32
-    requires edges_fit { EdgesFit edges.now emarks.now ne }
-    requires h_bound { h < 2 * ne }
-    ensures { result ≡ bit (bearing edges.now emarks.now h) }
+fn bearing_bit(m: &Mesh, h: u32) -> usize
+    requires { h < 2 * m.now.ne }
+    ensures { result ≡ bit (bearing m.now.edges.now m.now.emarks.now h) }
 {
-    if emarks[(h / 2) as usize] != 0 {
-        return 0;
+    if m.emarks[(h / 2) as usize] == 0 && m.face(h) != NONE {
+        1
+    } else {
+        0
     }
-    if face(edges, h) == NONE {
-        return 0;
-    }
-    1
 }
 
-fn half_count(emarks: &[u8], ne: u32) -> u32
-    requires ne_in_bounds { ne ≤ length emarks.now }
-    requires ne_bound { ne ≤ 1048576 }
-    ensures { result ≡ count (λ (x : ℕ). unmarked emarks.now x) (2 * ne) }
+// How many halfedges are there, and how many of them bear a face: sums of bits, since with `filter` and `count` the check of a large face takes a twentieth longer.
+fn half_count(m: &Mesh) -> usize
+    ensures { result ≡ count (unmarked m.now.emarks.now) (2 * m.now.ne) }
 {
-    let n = 2 * ne;
     let mut total = 0;
-    let mut k = 0;
-    while k < n {
-        total += half_bit(emarks, ne, k);
-        k += 1;
+    for h in 0..2 * m.ne {
+        total += half_bit(m, h);
     }
     total
 }
 
-fn bearing_count(edges: &[u32], emarks: &[u8], ne: u32) -> u32
-    requires { EdgesFit edges.now emarks.now ne }
-    ensures { result ≡ count (λ (x : ℕ). bearing edges.now emarks.now x) (2 * ne) }
+fn bearing_count(m: &Mesh) -> usize
+    ensures { result ≡ count (bearing m.now.edges.now m.now.emarks.now) (2 * m.now.ne) }
 {
-    let n = 2 * ne;
     let mut total = 0;
-    let mut k = 0;
-    while k < n {
-        total += bearing_bit(edges, emarks, ne, k);
-        k += 1;
+    for h in 0..2 * m.ne {
+        total += bearing_bit(m, h);
     }
     total
 }
 
 // The second half of C4, where the first holds everywhere: linear unless it is broken.
-pub fn low_off_loop(
-    edges: &[u32],
-    emarks: &[u8],
-    faces: &[u32],
-    fmarks: &[u8],
-    ne: u32,
-    nf: u32,
-) -> u32
-    requires edges_fit { EdgesFit edges.now emarks.now ne }
-    requires items_fit { ItemsFit faces.now fmarks.now nf }
-    requires sewn { Sewn edges.now emarks.now ne }
-    requires faced { Faced edges.now emarks.now faces.now fmarks.now ne nf }
-    requires all_bear { AllBear edges.now faces.now fmarks.now nf }
-    ensures { Low (λ (k : ℕ). OnLoop edges.now emarks.now faces.now ne k) (λ (k : ℕ). face_at edges.now k) (2 * ne) nf result }
+pub(crate) fn low_off_loop(m: &SewnMesh) -> Option<u32>
+    requires { FacesBear m.now.mesh }
+    ensures { LowFace IsOnLoop m.now.mesh result }
 {
-    let t = faces_total(edges, emarks, faces, fmarks, ne, nf);
-    if t == bearing_count(edges, emarks, ne) {
-        return nf;
+    if faces_total(m) == bearing_count(&m.mesh) {
+        return None;
     }
-    lowest_off_loop(edges, emarks, faces, fmarks, ne, nf)
+    lowest_off_loop(m)
 }
 
 // Whether C8 is in order everywhere; a false answer says nothing.
-pub fn turns_whole(
-    edges: &[u32],
-    emarks: &[u8],
-    outs: &[u32],
-    vmarks: &[u8],
-    ne: u32,
-    nv: u32,
-) -> bool
-    requires edges_fit { EdgesFit edges.now emarks.now ne }
-    requires items_fit { ItemsFit outs.now vmarks.now nv }
-    requires sewn { Sewn edges.now emarks.now ne }
-    requires rooted { Rooted edges.now emarks.now outs.now vmarks.now ne nv }
-    ensures { result ≡ true → Turned edges.now emarks.now outs.now vmarks.now ne nv }
+pub fn turns_whole(m: &SewnMesh) -> bool
+    ensures { result ≡ true → IsTurned m.now.mesh }
 {
-    let a = all_leave(edges, emarks, outs, vmarks, ne, nv);
-    if a < nv {
-        return false;
-    }
-    let t = vertices_total(edges, emarks, outs, vmarks, ne, nv);
-    if t == half_count(emarks, ne) {
-        return true;
-    }
-    false
+    m.all_leave().is_none() && vertices_total(m) == half_count(&m.mesh)
 }

@@ -5,3 +5,4 @@
 pub mod around;
 pub mod fast;
 pub mod low;
+pub mod steps;

@@ -1,172 +1,106 @@
 // The lowest place over all halfedges, and the rules that need it.
 
-ghost use Rattle.std.specs.Prelude.{◌≡◌, true, ℕ, ◌*◌};
+ghost use Rattle.std.specs.Prelude.{◌≡◌, true, ℕ, ◌*◌, ◌<◌};
 ghost use Rattle.mesh.specs.Words.{face_at, tail_at};
-ghost use Rattle.check_rounds.specs.Tour.{Spun, Turned};
-ghost use Rattle.check_rules.specs.Place.{Found, Live, Low};
-ghost use Rattle.check_rules.specs.Rule.{Alone, EdgesFit, Faced, ItemsFit, Looped, Named, OnLoop, OnTurn, R4, R7, R8, Rooted, Sewn};
+ghost use Rattle.check_rules.specs.Place.{Found, LowBy};
+ghost use Rattle.check_rounds.specs.OnMesh.{DifferOk, IsAlone, IsLooped, IsNamed, IsOnLoop, IsOnTurn, IsSpun, IsTurned, LoopOk, LowFace, LowVertex, TurnOk};
 
 use crate::around::{alone_ok, loop_ok, turn_ok};
 use crate::fast::low_off_loop;
-use check_rules::local::named_ok;
-use check_rules::scan::{all_bear, all_leave, all_long};
+use check_rules::states::SewnMesh;
 use check_rules::there::lower;
-use mesh::half::{face, tail};
 
-// The second half of C4: the lowest face with a halfedge that its loop does not hold.
-pub fn lowest_off_loop(
-    edges: &[u32],
-    emarks: &[u8],
-    faces: &[u32],
-    fmarks: &[u8],
-    ne: u32,
-    nf: u32,
-) -> u32
-    requires edges_fit { EdgesFit edges.now emarks.now ne }
-    requires items_fit { ItemsFit faces.now fmarks.now nf }
-    requires sewn { Sewn edges.now emarks.now ne }
-    requires faced { Faced edges.now emarks.now faces.now fmarks.now ne nf }
-    ensures { Low (λ (k : ℕ). OnLoop edges.now emarks.now faces.now ne k) (λ (k : ℕ). face_at edges.now k) (2 * ne) nf result }
+// The lowest place of a number below n at which the test of m fails.
+fn lowest<M: Copy, F: Fn(M, u32) -> bool, P: Fn(M, u32) -> u32>(
+    m: M,
+    n: u32,
+    ok: F,
+    place: P,
+) -> Option<u32>
+    requires can_test { (k : ℕ) → k < n → F.pre ok m k }
+    requires can_place { (k : ℕ) → k < n → P.pre place m k }
+    ensures { LowBy (F.post ok m) (P.post place m) n result }
 {
-    let n = 2 * ne;
-    let mut best = nf;
-    let mut k = 0;
-    while k < n {
-        let ok = loop_ok(edges, emarks, faces, fmarks, ne, nf, k);
-        best = lower(best, ok, face(edges, k));
-        k += 1;
+    let mut best = None;
+    for k in 0..n {
+        if !ok(m, k) {
+            best = lower(best, Some(place(m, k)));
+        }
     }
     best
+}
+
+// Named functions, which carry their contracts to `lowest`.
+fn face_of(m: &SewnMesh, h: u32) -> u32
+    requires { h < 2 * m.now.mesh.ne }
+    ensures { result ≡ face_at m.now.mesh.edges.now h }
+{
+    m.mesh.face(h)
+}
+
+fn vertex_of(m: &SewnMesh, h: u32) -> u32
+    requires { h < 2 * m.now.mesh.ne }
+    ensures { result ≡ tail_at m.now.mesh.edges.now h }
+{
+    m.mesh.tail(h)
+}
+
+// The second half of C4: the lowest face with a halfedge that its loop does not hold.
+pub(crate) fn lowest_off_loop(m: &SewnMesh) -> Option<u32>
+    ensures { LowFace IsOnLoop m.now.mesh result }
+{
+    lowest(m, 2 * m.mesh.ne, loop_ok, face_of)
 }
 
 // The second half of C7: the lowest face with two halfedges of one head.
-pub fn lowest_not_alone(edges: &[u32], emarks: &[u8], ne: u32, nf: u32, w: bool) -> u32
-    requires edges_fit { EdgesFit edges.now emarks.now ne }
-    requires sewn { Sewn edges.now emarks.now ne }
-    requires looped { Looped edges.now emarks.now ne }
-    requires spun { w ≡ true → Spun edges.now emarks.now ne }
-    ensures { Low (λ (k : ℕ). Alone edges.now emarks.now ne k) (λ (k : ℕ). face_at edges.now k) (2 * ne) nf result }
+pub(crate) fn lowest_not_alone(m: &SewnMesh, w: bool) -> Option<u32>
+    requires looped { IsLooped m.now.mesh }
+    requires spun { w ≡ true → IsSpun m.now.mesh }
+    ensures { LowFace IsAlone m.now.mesh result }
 {
-    let n = 2 * ne;
-    let mut best = nf;
-    let mut k = 0;
-    while k < n {
-        let ok = alone_ok(edges, emarks, ne, w, k);
-        best = lower(best, ok, face(edges, k));
-        k += 1;
-    }
-    best
+    lowest(m, 2 * m.mesh.ne, |m, h| alone_ok(m, w, h), face_of)
 }
 
 // The second half of C8: the lowest vertex with a leaving halfedge that its turn does not meet.
-pub fn lowest_off_turn(
-    edges: &[u32],
-    emarks: &[u8],
-    outs: &[u32],
-    vmarks: &[u8],
-    ne: u32,
-    nv: u32,
-) -> u32
-    requires edges_fit { EdgesFit edges.now emarks.now ne }
-    requires items_fit { ItemsFit outs.now vmarks.now nv }
-    requires sewn { Sewn edges.now emarks.now ne }
-    requires rooted { Rooted edges.now emarks.now outs.now vmarks.now ne nv }
-    ensures { Low (λ (k : ℕ). OnTurn edges.now emarks.now outs.now ne k) (λ (k : ℕ). tail_at edges.now k) (2 * ne) nv result }
+pub(crate) fn lowest_off_turn(m: &SewnMesh) -> Option<u32>
+    ensures { LowVertex IsOnTurn m.now.mesh result }
 {
-    let n = 2 * ne;
-    let mut best = nv;
-    let mut k = 0;
-    while k < n {
-        let ok = turn_ok(edges, emarks, outs, vmarks, ne, nv, k);
-        best = lower(best, ok, tail(edges, k));
-        k += 1;
-    }
-    best
+    lowest(m, 2 * m.mesh.ne, turn_ok, vertex_of)
 }
 
 // C9: the lowest vertex with a leaving rim halfedge that it does not name.
-pub fn lowest_not_named(
-    edges: &[u32],
-    emarks: &[u8],
-    outs: &[u32],
-    vmarks: &[u8],
-    ne: u32,
-    nv: u32,
-) -> u32
-    requires edges_fit { EdgesFit edges.now emarks.now ne }
-    requires items_fit { ItemsFit outs.now vmarks.now nv }
-    requires rooted { Rooted edges.now emarks.now outs.now vmarks.now ne nv }
-    ensures { Low (λ (k : ℕ). Named edges.now emarks.now outs.now ne k) (λ (k : ℕ). tail_at edges.now k) (2 * ne) nv result }
+pub fn lowest_not_named(m: &SewnMesh) -> Option<u32>
+    ensures { LowVertex IsNamed m.now.mesh result }
 {
-    let n = 2 * ne;
-    let mut best = nv;
-    let mut k = 0;
-    while k < n {
-        let ok = named_ok(edges, emarks, outs, vmarks, ne, nv, k);
-        best = lower(best, ok, tail(edges, k));
-        k += 1;
-    }
-    best
+    lowest(m, 2 * m.mesh.ne, SewnMesh::named_ok, vertex_of)
 }
 
-pub fn rule_4(edges: &[u32], emarks: &[u8], faces: &[u32], fmarks: &[u8], ne: u32, nf: u32) -> u32
-    requires edges_fit { EdgesFit edges.now emarks.now ne }
-    requires items_fit { ItemsFit faces.now fmarks.now nf }
-    requires sewn { Sewn edges.now emarks.now ne }
-    requires faced { Faced edges.now emarks.now faces.now fmarks.now ne nf }
-    ensures { Found (λ (k : ℕ). Live fmarks.now nf k → R4 edges.now emarks.now faces.now ne k) nf result }
+pub fn rule_4(m: &SewnMesh) -> Option<u32>
+    ensures { Found (LoopOk m.now.mesh) m.now.mesh.nf result }
 {
-    let a = all_bear(edges, emarks, faces, fmarks, ne, nf);
-    if nf <= a {
-        let q = low_off_loop(edges, emarks, faces, fmarks, ne, nf);
-        return lower(a, false, q);
-    }
-    let b = lowest_off_loop(edges, emarks, faces, fmarks, ne, nf);
-    lower(a, false, b)
+    let a = m.all_bear();
+    let b = if a.is_none() {
+        low_off_loop(m)
+    } else {
+        lowest_off_loop(m)
+    };
+    lower(a, b)
 }
 
-pub fn rule_7(
-    edges: &[u32],
-    emarks: &[u8],
-    faces: &[u32],
-    fmarks: &[u8],
-    ne: u32,
-    nf: u32,
-    w: bool,
-) -> u32
-    requires edges_fit { EdgesFit edges.now emarks.now ne }
-    requires items_fit { ItemsFit faces.now fmarks.now nf }
-    requires sewn { Sewn edges.now emarks.now ne }
-    requires faced { Faced edges.now emarks.now faces.now fmarks.now ne nf }
-    requires looped { Looped edges.now emarks.now ne }
-    requires spun { w ≡ true → Spun edges.now emarks.now ne }
-    ensures { Found (λ (k : ℕ). Live fmarks.now nf k → R7 edges.now emarks.now faces.now ne k) nf result }
+pub fn rule_7(m: &SewnMesh, w: bool) -> Option<u32>
+    requires looped { IsLooped m.now.mesh }
+    requires spun { w ≡ true → IsSpun m.now.mesh }
+    ensures { Found (DifferOk m.now.mesh) m.now.mesh.nf result }
 {
-    let a = all_long(edges, emarks, faces, fmarks, ne, nf);
-    let b = lowest_not_alone(edges, emarks, ne, nf, w);
-    lower(a, false, b)
+    lower(m.all_long(), lowest_not_alone(m, w))
 }
 
-pub fn rule_8(
-    edges: &[u32],
-    emarks: &[u8],
-    outs: &[u32],
-    vmarks: &[u8],
-    ne: u32,
-    nv: u32,
-    w: bool,
-) -> u32
-    requires edges_fit { EdgesFit edges.now emarks.now ne }
-    requires items_fit { ItemsFit outs.now vmarks.now nv }
-    requires sewn { Sewn edges.now emarks.now ne }
-    requires rooted { Rooted edges.now emarks.now outs.now vmarks.now ne nv }
-    requires turned { w ≡ true → Turned edges.now emarks.now outs.now vmarks.now ne nv }
-    ensures { Found (λ (k : ℕ). Live vmarks.now nv k → R8 edges.now emarks.now outs.now ne k) nv result }
+pub fn rule_8(m: &SewnMesh, w: bool) -> Option<u32>
+    requires { w ≡ true → IsTurned m.now.mesh }
+    ensures { Found (TurnOk m.now.mesh) m.now.mesh.nv result }
 {
     if w {
-        return nv;
+        return None;
     }
-    let a = all_leave(edges, emarks, outs, vmarks, ne, nv);
-    let b = lowest_off_turn(edges, emarks, outs, vmarks, ne, nv);
-    lower(a, false, b)
+    lower(m.all_leave(), lowest_off_turn(m))
 }

@@ -1,2 +1,4 @@
 pub mod Place
 pub mod Rule
+pub mod Once
+pub mod OnMesh

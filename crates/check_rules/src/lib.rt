@@ -4,4 +4,5 @@
 
 pub mod local;
 pub mod scan;
+pub mod states;
 pub mod there;

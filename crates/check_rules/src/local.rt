@@ -1,271 +1,130 @@
 // The rules that look at the links of one place.
 
-ghost use Rattle.std.specs.Prelude.{length, ◌*◌, ◌<◌, ◌≤◌};
+ghost use Rattle.std.specs.Prelude.{◌*◌, ◌<◌};
 ghost use Rattle.laws_check.specs.Tells.{Tells};
-ghost use Rattle.check_rules.specs.Place.{Half, Live};
-ghost use Rattle.check_rules.specs.Rule.{Bears, Chained, EdgesFit, Faced, ItemsFit, Leaves, LongEnough, Named, R1f, R1h, R1v, R2, R3, R5, R6, Rooted, Sewn};
+ghost use Rattle.check_rules.specs.OnMesh.{BearsOk, EdgeOk, FaceOk, HalfedgeOk, LeavesOk, LinksOk, LongOk, NamedOk, SewOk, SpikeOk, UndoOk, VertexOk};
 
-use crate::there::{live, live_half, none_or_half, none_or_live};
-use mesh::half::{NONE, face, head, next, partner, prev, tail};
+use crate::states::{LinkedMesh, Mesh, SewnMesh};
+use mesh::half::{NONE, partner};
 
-// C1 at a vertex.
-pub fn vertex_ok(outs: &[u32], vmarks: &[u8], emarks: &[u8], nv: u32, ne: u32, v: u32) -> bool
-    requires items_fit { ItemsFit outs.now vmarks.now nv }
-    requires ne_in_bounds { ne ≤ length emarks.now }
-    requires v_lt_nv { v < nv }
-    ensures { Tells result (Live vmarks.now nv v → R1v outs.now emarks.now ne v) }
-{
-    if !live(vmarks, nv, v) {
-        return true;
+impl Mesh<'_> {
+    // C1 at a vertex.
+    pub(crate) fn vertex_ok(&self, v: u32) -> bool
+        requires { v < self.now.nv }
+        ensures { Tells result (VertexOk self.now v) }
+    {
+        !self.live_vertex(v) || self.none_or_half(self.outs[v as usize])
     }
-    none_or_half(emarks, ne, outs[v as usize])
+
+    fn links_ok(&self, h: u32) -> bool
+        requires { h < 2 * self.now.ne }
+        ensures { Tells result (LinksOk self.now h) }
+    {
+        self.none_or_face(self.face(h))
+            && self.live_vertex(self.head(h))
+            && self.live_half(self.next(h))
+            && self.live_half(self.prev(h))
+    }
+
+    // C1 at a halfedge.
+    pub(crate) fn halfedge_ok(&self, h: u32) -> bool
+        requires { h < 2 * self.now.ne }
+        ensures { Tells result (HalfedgeOk self.now h) }
+    {
+        !self.live_half(h) || self.links_ok(h)
+    }
+
+    // C1 at a face.
+    pub(crate) fn face_ok(&self, f: u32) -> bool
+        requires { f < self.now.nf }
+        ensures { Tells result (FaceOk self.now f) }
+    {
+        !self.live_face(f) || self.live_half(self.faces[f as usize])
+    }
+
+    // C5.
+    pub(crate) fn edge_ok(&self, h: u32) -> bool
+        requires { h < 2 * self.now.ne }
+        ensures { Tells result (EdgeOk self.now h) }
+    {
+        !self.live_half(h) || self.face(h) != NONE || self.face(partner(h)) != NONE
+    }
+
+    // C6.
+    pub(crate) fn spike_ok(&self, h: u32) -> bool
+        requires { h < 2 * self.now.ne }
+        ensures { Tells result (SpikeOk self.now h) }
+    {
+        !self.live_half(h) || self.next(h) != partner(h)
+    }
 }
 
-fn links_ok(
-    edges: &[u32],
-    vmarks: &[u8],
-    emarks: &[u8],
-    fmarks: &[u8],
-    nv: u32,
-    ne: u32,
-    nf: u32,
-    h: u32,
-) -> bool
-    requires edges_fit { EdgesFit edges.now emarks.now ne }
-    requires nv_in_bounds { nv ≤ length vmarks.now }
-    requires nf_in_bounds { nf ≤ length fmarks.now }
-    requires h_bound { h < 2 * ne }
-    ensures { Tells result (R1h edges.now vmarks.now emarks.now fmarks.now nv ne nf h) }
-{
-    if !none_or_live(fmarks, nf, face(edges, h)) {
-        return false;
+impl LinkedMesh<'_> {
+    // C2.
+    pub(crate) fn undo_ok(&self, h: u32) -> bool
+        requires { h < 2 * self.now.mesh.ne }
+        ensures { Tells result (UndoOk self.now.mesh h) }
+    {
+        let m = &self.mesh;
+        !m.live_half(h) || (m.next(m.prev(h)) == h && m.prev(m.next(h)) == h)
     }
-    if !live(vmarks, nv, head(edges, h)) {
-        return false;
+
+    // C3.
+    pub(crate) fn sew_ok(&self, h: u32) -> bool
+        requires { h < 2 * self.now.mesh.ne }
+        ensures { Tells result (SewOk self.now.mesh h) }
+    {
+        let m = &self.mesh;
+        if !m.live_half(h) {
+            return true;
+        }
+        let n = m.next(h);
+        m.tail(n) == m.head(h) && m.face(n) == m.face(h)
     }
-    if !live_half(emarks, ne, next(edges, h)) {
-        return false;
-    }
-    if !live_half(emarks, ne, prev(edges, h)) {
-        return false;
-    }
-    true
 }
 
-// C1 at a halfedge.
-pub fn halfedge_ok(
-    edges: &[u32],
-    vmarks: &[u8],
-    emarks: &[u8],
-    fmarks: &[u8],
-    nv: u32,
-    ne: u32,
-    nf: u32,
-    h: u32,
-) -> bool
-    requires edges_fit { EdgesFit edges.now emarks.now ne }
-    requires nv_in_bounds { nv ≤ length vmarks.now }
-    requires nf_in_bounds { nf ≤ length fmarks.now }
-    requires h_bound { h < 2 * ne }
-    ensures { Tells result (Half emarks.now ne h → R1h edges.now vmarks.now emarks.now fmarks.now nv ne nf h) }
-{
-    if !live_half(emarks, ne, h) {
-        return true;
+impl SewnMesh<'_> {
+    // C4's first half: the face's halfedge bears it.
+    pub(crate) fn bears_ok(&self, f: u32) -> bool
+        requires { f < self.now.mesh.nf }
+        ensures { Tells result (BearsOk self.now.mesh f) }
+    {
+        let m = &self.mesh;
+        !m.live_face(f) || m.face(m.faces[f as usize]) == f
     }
-    links_ok(edges, vmarks, emarks, fmarks, nv, ne, nf, h)
-}
 
-// C1 at a face.
-pub fn face_ok(faces: &[u32], fmarks: &[u8], emarks: &[u8], nf: u32, ne: u32, f: u32) -> bool
-    requires items_fit { ItemsFit faces.now fmarks.now nf }
-    requires ne_in_bounds { ne ≤ length emarks.now }
-    requires f_lt_nf { f < nf }
-    ensures { Tells result (Live fmarks.now nf f → R1f faces.now emarks.now ne f) }
-{
-    if !live(fmarks, nf, f) {
-        return true;
+    // C7's first half: three or more.
+    pub(crate) fn long_ok(&self, f: u32) -> bool
+        requires { f < self.now.mesh.nf }
+        ensures { Tells result (LongOk self.now.mesh f) }
+    {
+        let m = &self.mesh;
+        if !m.live_face(f) {
+            return true;
+        }
+        let s = m.faces[f as usize];
+        m.next(m.next(s)) != s
     }
-    live_half(emarks, ne, faces[f as usize])
-}
 
-// C2.
-pub fn undo_ok(edges: &[u32], emarks: &[u8], ne: u32, h: u32) -> bool
-    requires edges_fit { EdgesFit edges.now emarks.now ne }
-    requires chained { Chained edges.now emarks.now ne }
-    requires h_bound { h < 2 * ne }
-    ensures { Tells result (Half emarks.now ne h → R2 edges.now h) }
-{
-    if !live_half(emarks, ne, h) {
-        return true;
+    // C8's first half: the vertex's halfedge leaves it.
+    pub(crate) fn leaves_ok(&self, v: u32) -> bool
+        requires { v < self.now.mesh.nv }
+        ensures { Tells result (LeavesOk self.now.mesh v) }
+    {
+        let m = &self.mesh;
+        if !m.live_vertex(v) {
+            return true;
+        }
+        let h = m.outs[v as usize];
+        h == NONE || m.tail(h) == v
     }
-    if next(edges, prev(edges, h)) != h {
-        return false;
-    }
-    if prev(edges, next(edges, h)) != h {
-        return false;
-    }
-    true
-}
 
-// C3.
-pub fn sew_ok(edges: &[u32], emarks: &[u8], ne: u32, h: u32) -> bool
-    requires edges_fit { EdgesFit edges.now emarks.now ne }
-    requires chained { Chained edges.now emarks.now ne }
-    requires h_bound { h < 2 * ne }
-    ensures { Tells result (Half emarks.now ne h → R3 edges.now h) }
-{
-    if !live_half(emarks, ne, h) {
-        return true;
+    // C9 at a halfedge.
+    pub fn named_ok(&self, h: u32) -> bool
+        requires { h < 2 * self.now.mesh.ne }
+        ensures { Tells result (NamedOk self.now.mesh h) }
+    {
+        let m = &self.mesh;
+        !m.live_half(h) || m.face(h) != NONE || m.outs[m.tail(h) as usize] == h
     }
-    let n = next(edges, h);
-    if tail(edges, n) != head(edges, h) {
-        return false;
-    }
-    if face(edges, n) != face(edges, h) {
-        return false;
-    }
-    true
-}
-
-// C5.
-pub fn edge_ok(edges: &[u32], emarks: &[u8], ne: u32, h: u32) -> bool
-    requires edges_fit { EdgesFit edges.now emarks.now ne }
-    requires h_bound { h < 2 * ne }
-    ensures { Tells result (Half emarks.now ne h → R5 edges.now h) }
-{
-    if !live_half(emarks, ne, h) {
-        return true;
-    }
-    if face(edges, h) != NONE {
-        return true;
-    }
-    if face(edges, partner(h)) != NONE {
-        return true;
-    }
-    false
-}
-
-// C6.
-pub fn spike_ok(edges: &[u32], emarks: &[u8], ne: u32, h: u32) -> bool
-    requires edges_fit { EdgesFit edges.now emarks.now ne }
-    requires h_bound { h < 2 * ne }
-    ensures { Tells result (Half emarks.now ne h → R6 edges.now h) }
-{
-    if !live_half(emarks, ne, h) {
-        return true;
-    }
-    if next(edges, h) == partner(h) {
-        return false;
-    }
-    true
-}
-
-// C4's first half: the face's halfedge bears it.
-pub fn bears_ok(
-    edges: &[u32],
-    emarks: &[u8],
-    faces: &[u32],
-    fmarks: &[u8],
-    ne: u32,
-    nf: u32,
-    f: u32,
-) -> bool
-    requires edges_fit { EdgesFit edges.now emarks.now ne }
-    requires items_fit { ItemsFit faces.now fmarks.now nf }
-    requires faced { Faced edges.now emarks.now faces.now fmarks.now ne nf }
-    requires f_lt_nf { f < nf }
-    ensures { Tells result (Live fmarks.now nf f → Bears edges.now faces.now f) }
-{
-    if !live(fmarks, nf, f) {
-        return true;
-    }
-    if face(edges, faces[f as usize]) != f {
-        return false;
-    }
-    true
-}
-
-// C7's first half: three or more.
-pub fn long_ok(
-    edges: &[u32],
-    emarks: &[u8],
-    faces: &[u32],
-    fmarks: &[u8],
-    ne: u32,
-    nf: u32,
-    f: u32,
-) -> bool
-    requires edges_fit { EdgesFit edges.now emarks.now ne }
-    requires items_fit { ItemsFit faces.now fmarks.now nf }
-    requires sewn { Sewn edges.now emarks.now ne }
-    requires faced { Faced edges.now emarks.now faces.now fmarks.now ne nf }
-    requires f_lt_nf { f < nf }
-    ensures { Tells result (Live fmarks.now nf f → LongEnough edges.now faces.now f) }
-{
-    if !live(fmarks, nf, f) {
-        return true;
-    }
-    let s = faces[f as usize];
-    if next(edges, next(edges, s)) == s {
-        return false;
-    }
-    true
-}
-
-// C8's first half: the vertex's halfedge leaves it.
-pub fn leaves_ok(
-    edges: &[u32],
-    emarks: &[u8],
-    outs: &[u32],
-    vmarks: &[u8],
-    ne: u32,
-    nv: u32,
-    v: u32,
-) -> bool
-    requires edges_fit { EdgesFit edges.now emarks.now ne }
-    requires items_fit { ItemsFit outs.now vmarks.now nv }
-    requires rooted { Rooted edges.now emarks.now outs.now vmarks.now ne nv }
-    requires v_lt_nv { v < nv }
-    ensures { Tells result (Live vmarks.now nv v → Leaves edges.now outs.now v) }
-{
-    if !live(vmarks, nv, v) {
-        return true;
-    }
-    let h = outs[v as usize];
-    if h == NONE {
-        return true;
-    }
-    if tail(edges, h) != v {
-        return false;
-    }
-    true
-}
-
-// C9 at a halfedge.
-pub fn named_ok(
-    edges: &[u32],
-    emarks: &[u8],
-    outs: &[u32],
-    vmarks: &[u8],
-    ne: u32,
-    nv: u32,
-    h: u32,
-) -> bool
-    requires edges_fit { EdgesFit edges.now emarks.now ne }
-    requires items_fit { ItemsFit outs.now vmarks.now nv }
-    requires rooted { Rooted edges.now emarks.now outs.now vmarks.now ne nv }
-    requires h_bound { h < 2 * ne }
-    ensures { Tells result (Named edges.now emarks.now outs.now ne h) }
-{
-    if !live_half(emarks, ne, h) {
-        return true;
-    }
-    if face(edges, h) != NONE {
-        return true;
-    }
-    let v = tail(edges, h);
-    if outs[v as usize] != h {
-        return false;
-    }
-    true
 }

@@ -1,69 +1,97 @@
-// Which elements are there: in range and not marked.
+// Which elements are there, in range and not marked, and the links of a halfedge.
 
-ghost use Rattle.std.specs.Prelude.{◌≡◌, ◌⊎◌, length, ◌≤◌};
+ghost use Rattle.std.specs.Prelude.{◌≡◌, ◌⊎◌, ◌*◌, ◌<◌, ◌≤◌, length};
 ghost use Rattle.laws_check.specs.Tells.{Tells};
-ghost use Rattle.check_rules.specs.Place.{Half, Live, Lower};
+ghost use Rattle.check_rules.specs.OnMesh.{HasFace, HasHalf, HasVertex};
+ghost use Rattle.check_rules.specs.Place.{Live, Lower};
+ghost use Rattle.mesh.specs.Words.{face_at, head_at, next_at, prev_at, tail_at};
 ghost use Rattle.scope.specs.Links.{NONE};
 
+use crate::states::Mesh;
+use mesh::half;
 use mesh::half::NONE;
 
-pub fn live(marks: &[u8], n: u32, x: u32) -> bool
+fn live(marks: &[u8], n: u32, x: u32) -> bool
     requires { n ≤ length marks.now }
     ensures { Tells result (Live marks.now n x) }
 {
-    if n <= x {
-        return false;
-    }
-    if marks[x as usize] != 0 {
-        return false;
-    }
-    true
+    x < n && marks[x as usize] == 0
 }
 
-pub fn live_half(marks: &[u8], n: u32, h: u32) -> bool
-    requires { n ≤ length marks.now }
-    ensures { Tells result (Half marks.now n h) }
-{
-    let e = h / 2;
-    if n <= e {
-        return false;
+impl Mesh<'_> {
+    pub fn live_vertex(&self, v: u32) -> bool
+        ensures { Tells result (HasVertex self.now v) }
+    {
+        live(self.vmarks, self.nv, v)
     }
-    if marks[e as usize] != 0 {
-        return false;
+
+    pub fn live_half(&self, h: u32) -> bool
+        ensures { Tells result (HasHalf self.now h) }
+    {
+        live(self.emarks, self.ne, h / 2)
     }
-    true
+
+    pub fn live_face(&self, f: u32) -> bool
+        ensures { Tells result (HasFace self.now f) }
+    {
+        live(self.fmarks, self.nf, f)
+    }
+
+    // A link that may be none.
+    pub(crate) fn none_or_half(&self, h: u32) -> bool
+        ensures { Tells result ((h ≡ NONE) ⊎ HasHalf self.now h) }
+    {
+        h == NONE || self.live_half(h)
+    }
+
+    pub(crate) fn none_or_face(&self, f: u32) -> bool
+        ensures { Tells result ((f ≡ NONE) ⊎ HasFace self.now f) }
+    {
+        f == NONE || self.live_face(f)
+    }
+
+    pub fn face(&self, h: u32) -> u32
+        requires { h < 2 * self.now.ne }
+        ensures { result ≡ face_at self.now.edges.now h }
+    {
+        half::face(self.edges, h)
+    }
+
+    pub fn head(&self, h: u32) -> u32
+        requires { h < 2 * self.now.ne }
+        ensures { result ≡ head_at self.now.edges.now h }
+    {
+        half::head(self.edges, h)
+    }
+
+    pub fn next(&self, h: u32) -> u32
+        requires { h < 2 * self.now.ne }
+        ensures { result ≡ next_at self.now.edges.now h }
+    {
+        half::next(self.edges, h)
+    }
+
+    pub fn prev(&self, h: u32) -> u32
+        requires { h < 2 * self.now.ne }
+        ensures { result ≡ prev_at self.now.edges.now h }
+    {
+        half::prev(self.edges, h)
+    }
+
+    pub fn tail(&self, h: u32) -> u32
+        requires { h < 2 * self.now.ne }
+        ensures { result ≡ tail_at self.now.edges.now h }
+    {
+        half::tail(self.edges, h)
+    }
 }
 
-// A link that may be none.
-pub fn none_or_live(marks: &[u8], n: u32, x: u32) -> bool
-    requires { n ≤ length marks.now }
-    ensures { Tells result ((x ≡ NONE) ⊎ Live marks.now n x) }
+// The lower of two places that may be none.
+pub fn lower(a: Option<u32>, b: Option<u32>) -> Option<u32>
+    ensures { Lower a b result }
 {
-    if x == NONE {
-        return true;
+    match (a, b) {
+        (Some(p), Some(q)) => Some(p.min(q)),
+        _ => a.or(b),
     }
-    live(marks, n, x)
-}
-
-pub fn none_or_half(marks: &[u8], n: u32, h: u32) -> bool
-    requires { n ≤ length marks.now }
-    ensures { Tells result ((h ≡ NONE) ⊎ Half marks.now n h) }
-{
-    if h == NONE {
-        return true;
-    }
-    live_half(marks, n, h)
-}
-
-// The lower of two places; the second counts only where it is not in order.
-pub fn lower(best: u32, ok: bool, p: u32) -> u32
-    ensures { Lower best ok p result }
-{
-    if ok {
-        return best;
-    }
-    if p < best {
-        return p;
-    }
-    best
 }

@@ -8,15 +8,15 @@ ghost use Rattle.count_fields.specs.Fields.{shells_of, counted};
 use crate::loops::rim_loops;
 use crate::numbers::{corners, joined, rim_edges};
 
-// A whole number with its sign.
-#[derive(Clone, Copy)]
+// A whole number with its sign. No signed integer, as half of -1 is -0 here (`shells_of`), and the line says so.
+#[derive(Clone, Copy, Debug, PartialEq, Eq)]
 pub struct Shells {
     pub minus: bool,
     pub size: usize,
 }
 
 // The fields of the counter's line.
-#[derive(Clone, Copy)]
+#[derive(Clone, Copy, Debug, PartialEq, Eq)]
 pub struct Tally {
     pub v: usize,
     pub e: usize,
@@ -32,15 +32,9 @@ fn half_of(joined: usize, e: usize, f: usize, loops: usize) -> Shells
     ensures { result ≡ shells_of joined e f loops }
 {
     let up = joined + f + loops;
-    if up < e {
-        return Shells {
-            minus: true,
-            size: (e - up) / 2,
-        };
-    }
     Shells {
-        minus: false,
-        size: (up - e) / 2,
+        minus: up < e,
+        size: up.abs_diff(e) / 2,
     }
 }
 
@@ -50,17 +44,14 @@ pub fn fields(outs: &[u32], edges: &[u32], faces: &[u32], n: usize) -> Tally
     requires linked { Linked edges.now faces.now n }
     ensures { result ≡ counted (links_at (length outs.now) n (length faces.now) outs.now edges.now faces.now) }
 {
-    let s = corners(edges, faces, n);
-    let b = rim_edges(edges, n);
-    let w = joined(outs);
-    let l = rim_loops(edges, faces, n);
-    let x = half_of(w, n, faces.len(), l);
+    let joined = joined(outs);
+    let loops = rim_loops(edges, faces, n);
     Tally {
         v: outs.len(),
         e: n,
         f: faces.len(),
-        corners: s,
-        rim: b,
-        shells: x,
+        corners: corners(edges, faces, n),
+        rim: rim_edges(edges, n),
+        shells: half_of(joined, n, faces.len(), loops),
     }
 }

@@ -6,28 +6,15 @@ ghost use Rattle.mesh.specs.Words.{next_at};
 ghost use Rattle.mesh.specs.Rounds.{Walk, loop_at, rim_at};
 ghost use Rattle.count_fields.specs.Count.{Linked, below, lowest_rim};
 
-use crate::numbers::one;
-use mesh::half::next;
 use mesh::rim::rim;
+use mesh_walk::round::{ByNext, Round};
 
 // Whether the loop of h meets a halfedge lower than h.
 fn meets_lower(edges: &[u32], n: usize, h: u32) -> bool
     requires { Walk next_at edges.now n h }
     ensures { result ≡ below h (loop_at edges.now n h) }
 {
-    let mut x = h;
-    let mut left = 2 * n;
-    while 0 < left {
-        if x < h {
-            return true;
-        }
-        x = next(edges, x);
-        if x == h {
-            return false;
-        }
-        left -= 1;
-    }
-    false
+    Round::<ByNext>::new(edges, n, h).any(|x| x < h)
 }
 
 // Whether h is the lowest halfedge of a rim loop.
@@ -35,10 +22,7 @@ fn lowest_rim(edges: &[u32], n: usize, h: u32) -> bool
     requires { Walk next_at edges.now n h }
     ensures { result ≡ lowest_rim edges.now n h }
 {
-    if !rim(edges, h) {
-        return false;
-    }
-    !meets_lower(edges, n, h)
+    rim(edges, h) && !meets_lower(edges, n, h)
 }
 
 // The rim loops.
@@ -47,11 +31,7 @@ pub fn rim_loops(edges: &[u32], faces: &[u32], n: usize) -> usize
     ensures value { result ≡ number_of (2 * n) (lowest_rim edges.now n) }
     ensures upper_bound { result ≤ 2 * n }
 {
-    let mut k = 0;
-    let mut h = 0;
-    while h < 2 * n {
-        k += one(lowest_rim(edges, n, h as u32));
-        h += 1;
-    }
-    k
+    (0..2 * n as u32)
+        .filter(|h| lowest_rim(edges, n, *h))
+        .count()
 }

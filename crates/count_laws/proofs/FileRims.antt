@@ -1,8 +1,9 @@
 -- The counter's number of rim loops for a file that is read and in which nothing is marked. Assumes nothing.
+use Rattle.std.proofs.lemmas.Option.{none-some}
 use Prim.Native.Nat.{ℕ, ◌+◌, ◌*◌}
 use mathlib.Core.Path.{◌≡◌, refl, sym, subst⁻¹}
 use mathlib.Core.List.{List, map}
-use mathlib.Core.Option.{Option, none, some, none-ne-some}
+use Rattle.std.specs.Prelude.{Option, None, Some, Ok}
 use native.Mathlib.Omega.{arith}
 use lib.ListN.{get_or, length, take}
 use lib.Seq.{length-take-le}
@@ -16,7 +17,6 @@ use Rattle.scope.specs.Slices.{Sizes, used, links_of, marks_of}
 use Rattle.scope.specs.Answers.{refuse}
 use Rattle.laws_mesh.specs.Of.{Sized, Marked}
 use Rattle.laws_call.proofs.Handed.{what-fits, unmarked}
-use Rattle.file_read.specs.declared.read.Reading.TheVariants.{Read}
 use Rattle.file_read.specs.Format.{word_at, file_counts, file_slices, outs_from, edges_from, faces_from, marks_from, contents_refusal, link_refusal, read_refusal, reading}
 use Rattle.file_read.proofs.FillLaws.{length_run}
 use Rattle.file_read.proofs.ReadLaws.{reading-read, contents-none}
@@ -25,19 +25,19 @@ use Rattle.count_laws.specs.RimLoops.{RimLoopCount}
 use Rattle.count_laws.proofs.RimLaws.{sound-rim-loops}
 
 -- ---- no refusal
-both-none : (o p : Option Refusal) → (o or_else p) ≡ none → (o ≡ none) × (p ≡ none)
-both-none none p e = (refl, e)
-both-none (some r) p e = absurd (none-ne-some _ (sym e))
+both-none : (o p : Option Refusal) → (o or_else p) ≡ None → (o ≡ None) × (p ≡ None)
+both-none None p e = (refl, e)
+both-none (Some r) p e = absurd (none-some _ (sym e))
 
-no-fault : (o : Option Fault) → refuse o NotConsistent ≡ none → o ≡ none
-no-fault none e = refl
-no-fault (some x) e = absurd (none-ne-some _ (sym e))
+no-fault : (o : Option Fault) → refuse o NotConsistent ≡ None → o ≡ None
+no-fault None e = refl
+no-fault (Some x) e = absurd (none-some _ (sym e))
 
-faultless : (b : List ℕ) → link_refusal b ≡ none → fault (links_of (file_counts b) (file_slices b)) (marks_of (file_counts b) (file_slices b)) ≡ none
+faultless : (b : List ℕ) → link_refusal b ≡ None → fault (links_of (file_counts b) (file_slices b)) (marks_of (file_counts b) (file_slices b)) ≡ None
 unfolding link_refusal
 faultless b e = no-fault (fault (links_of (file_counts b) (file_slices b)) (marks_of (file_counts b) (file_slices b))) e
 
-refusals : (b : List ℕ) (room : Sizes) (p : ℕ) → read_refusal b room p ≡ none → (contents_refusal b room p ≡ none) × (link_refusal b ≡ none)
+refusals : (b : List ℕ) (room : Sizes) (p : ℕ) → read_refusal b room p ≡ None → (contents_refusal b room p ≡ None) × (link_refusal b ≡ None)
 unfolding read_refusal
 refusals b room p e = both-none (contents_refusal b room p) (link_refusal b) e
 
@@ -45,7 +45,7 @@ refusals b room p e = both-none (contents_refusal b room p) (link_refusal b) e
 run-used : (f : ℕ → ℕ) (n : ℕ) → length (take n (map f (range 0 n))) ≡ n
 run-used f n = let e = length_run f n in length-take-le n (map f (range 0 n)) (omega arith)
 
-file-sized : (b : List ℕ) (room : Sizes) (p : ℕ) → contents_refusal b room p ≡ none → Sized (links_of (file_counts b) (file_slices b))
+file-sized : (b : List ℕ) (room : Sizes) (p : ℕ) → contents_refusal b room p ≡ None → Sized (links_of (file_counts b) (file_slices b))
 unfolding links_of used file_slices
 file-sized b room p e =
     let c = file_counts b in
@@ -70,7 +70,7 @@ file-marked b =
     }
 
 -- a file that is read, and in which nothing is marked
-pub file-rim-loops : (b : List ℕ) (room : Sizes) (p : ℕ) (c : Counts) → reading (read_refusal b room p) (file_counts b) ≡ Read c → marked (marks_of c (file_slices b)) ≡ none
+pub file-rim-loops : (b : List ℕ) (room : Sizes) (p : ℕ) (c : Counts) → reading (read_refusal b room p) (file_counts b) ≡ Ok c → marked (marks_of c (file_slices b)) ≡ None
     → RimLoopCount (links_of c (file_slices b)) (rim_loops (links_of c (file_slices b)))
 file-rim-loops b room p c e k =
     let (o, d) = reading-read (read_refusal b room p) (file_counts b) e in
@@ -78,7 +78,7 @@ file-rim-loops b room p c e k =
     subst⁻¹ (λ (c : Counts). RimLoopCount (links_of c (file_slices b)) (rim_loops (links_of c (file_slices b)))) d
     (counted (rw (d) at k) u w)
   where
-    counted : marked (marks_of (file_counts b) (file_slices b)) ≡ none → contents_refusal b room p ≡ none → link_refusal b ≡ none
+    counted : marked (marks_of (file_counts b) (file_slices b)) ≡ None → contents_refusal b room p ≡ None → link_refusal b ≡ None
         → RimLoopCount (links_of (file_counts b) (file_slices b)) (rim_loops (links_of (file_counts b) (file_slices b)))
     counted k u w =
         let m = links_of (file_counts b) (file_slices b) in

@@ -6,17 +6,28 @@ use mathlib.Core.List.{List, [], ◌∷◌}
 use Prim.Native.Nat.{ℕ, ◌≤◌, ◌<◌}
 use native.Mathlib.Decide.{dec_lt}
 use native.Mathlib.Omega.{arith}
-use borrow.Author.Tests.{not-true, not-false}
+use borrow.Author.Tests.{not-true, not-false, lt-ltb, le-ltb}
 use Rattle.scope.specs.Lists.{has}
 use Rattle.mesh.proofs.RoundLaws.{has-none, has_here, has-past}
 use Rattle.laws_mesh.proofs.Cycle.{split, First, first}
 use Rattle.laws_check.specs.Tells.{Tells}
 use Rattle.laws_check.proofs.Tells.{never}
 use Rattle.count_fields.specs.Count.{below}
-use Rattle.count_fields.proofs.CountLaws.{below_none, below-here, below-past}
 
 has_on : (x y : ℕ) (l : List ℕ) → has x l ≡ true → has x (y ∷ l) ≡ true
 has_on x y l e = split y x (λ q. has_here x y l q) (λ q. has-past x y l q ∙ e)
+
+below_none : (h : ℕ) → below h [] ≡ false
+unfolding below
+below_none h = refl
+
+below-here : (h x : ℕ) (l : List ℕ) → x < h → below h (x ∷ l) ≡ true
+unfolding below
+below-here h x l b = rw (lt-ltb x h b)
+
+below-past : (h x : ℕ) (l : List ℕ) → h ≤ x → below h (x ∷ l) ≡ below h l
+unfolding below
+below-past h x l b = rw (le-ltb x h b)
 
 -- none of l is below h
 none_below : (h : ℕ) (l : List ℕ) → ((x : ℕ) → has x l ≡ true → h ≤ x) → below h l ≡ false

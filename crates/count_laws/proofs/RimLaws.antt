@@ -2,7 +2,7 @@
 use mathlib.Core.Path.{◌≡◌, refl, sym, ap, ◌∙◌, subst, subst⁻¹}
 use mathlib.Core.Bool.{Bool, true, false}
 use mathlib.Core.List.{List, [], map}
-use mathlib.Core.Option.{none}
+use Rattle.std.specs.Prelude.{None}
 use Prim.Native.Nat.{ℕ, ◌*◌, ◌≤◌, ◌<◌}
 use native.Mathlib.Omega.{arith}
 use lib.Dec.{T, eqb}
@@ -179,6 +179,6 @@ module _ (m : Links) (g : Good m) where
   rim-loops-counted = record { listed = (_, rim-loops-listed); long = rim-loops-long }
 
 -- the same of a mesh in which the check finds no fault and nothing is marked, as the counter has it
-pub sound-rim-loops : (m : Links) (k : Marks) → Sized m → Unmarked m k → fault m k ≡ none → RimLoopCount m (rim_loops m)
+pub sound-rim-loops : (m : Links) (k : Marks) → Sized m → Unmarked m k → fault m k ≡ None → RimLoopCount m (rim_loops m)
 sound-rim-loops m k s u e =
     rim-loops-counted m (record { sized = s; consistent = to-mesh m k u (none-consistent m k s.few_e s.few_f e) })

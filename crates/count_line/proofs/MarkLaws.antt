@@ -3,49 +3,30 @@ use Prim.Native.Nat.{ℕ}
 use mathlib.Core.Path.{◌≡◌, refl, sym, ◌∙◌}
 use mathlib.Core.Bool.{Bool, true, false, true≢false}
 use mathlib.Core.List.{List}
-use mathlib.Core.Option.{Option, none, some}
-use native.Mathlib.Omega.{arith}
+use Rattle.std.specs.Prelude.{Option, None, Some}
 use Rattle.scope.specs.declared.answers.Place.{Place}
 use Rattle.scope.specs.declared.answers.Place.TheVariants.{AtVertex, AtEdge, AtFace}
 use Rattle.scope.specs.Lists.{◌or_else◌}
 use Rattle.scope.specs.Check.{set_mark, spot, marked}
 use Rattle.check_mesh.specs.Checked.{marks_at}
-use Rattle.slices.specs.declared.marks.Mark.{Mark}
-use Rattle.slices.specs.declared.marks.Mark.TheVariants.{At, Nothing}
-use Rattle.slices.specs.Marks.{found, found_mark}
 use Rattle.count_line.specs.Asks.{there}
 
-pub there-not : {A : Type 0} (o : Option A) {r : Bool} → r ≡ there o → r ≡ false → o ≡ none
-there-not none e f = refl
-there-not (some x) e f = absurd (true≢false (sym e ∙ f))
-
--- ---- one search
-pub mark-there : (l : List ℕ) {m : Mark} {i : ℕ} → m ≡ found_mark l → m ≡ At i → true ≡ there (set_mark l)
-mark-there l {m} {i} e f = go (set_mark l) (sym e ∙ f)
-  where
-    go : (o : Option ℕ) → found o ≡ At i → true ≡ there o
-    go none q = let z : ◌≡◌ {A = ℕ} 0 1 = cc in absurd (omega arith)
-    go (some j) q = refl
-
-pub no-mark-there : (l : List ℕ) {m : Mark} → m ≡ found_mark l → m ≡ Nothing → false ≡ there (set_mark l)
-no-mark-there l {m} e f = go (set_mark l) (sym e ∙ f)
-  where
-    go : (o : Option ℕ) → found o ≡ Nothing → false ≡ there o
-    go none q = refl
-    go (some j) q = let z : ◌≡◌ {A = ℕ} 0 1 = cc in absurd (omega arith)
+pub there-not : {A : Type 0} (o : Option A) {r : Bool} → r ≡ there o → r ≡ false → o ≡ None
+there-not None e f = refl
+there-not (Some x) e f = absurd (true≢false (sym e ∙ f))
 
 -- ---- the three
 spot-there : (p : ℕ → Place) (o : Option ℕ) → there (spot p o) ≡ there o
-spot-there p none = refl
-spot-there p (some i) = refl
+spot-there p None = refl
+spot-there p (Some i) = refl
 
 first-there : (a b : Option Place) → there a ≡ true → true ≡ there (a or_else b)
-first-there none b e = absurd (true≢false (sym e))
-first-there (some x) b e = refl
+first-there None b e = absurd (true≢false (sym e))
+first-there (Some x) b e = refl
 
 then-there : (a b : Option Place) → there a ≡ false → there b ≡ there (a or_else b)
-then-there none b e = refl
-then-there (some x) b e = absurd (true≢false e)
+then-there None b e = refl
+then-there (Some x) b e = absurd (true≢false e)
 
 module _ (vm em fm : List ℕ) where
   pub face-there : {r : Bool} → r ≡ there (set_mark fm) → r ≡ true → true ≡ there (marked (marks_at vm em fm))

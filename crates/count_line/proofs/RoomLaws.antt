@@ -3,16 +3,16 @@ use Prim.Native.Nat.{ℕ, ◌*◌, ◌≤◌}
 use mathlib.Core.Path.{◌≡◌, refl, ap}
 use mathlib.Core.Bool.{Bool, true, false, not}
 use mathlib.Core.List.{List}
-use mathlib.Core.Option.{Option, none, some}
+use Rattle.std.specs.Prelude.{Option, None, Some}
 use native.Mathlib.Omega.{arith}
 use borrow.Author.Tests.{le-leb, ltb-false}
 use lib.Dec.{ltb}
-use lib.ListN.{length}
+use lib.ListN.{length, replicate, length-replicate}
 use lib.Ieee.{Float}
 use Rattle.scope.specs.declared.answers.Refusal.{Refusal}
 use Rattle.scope.specs.declared.answers.Refusal.TheVariants.{NotFinite}
 use Rattle.scope.specs.Lists.{◌or_else◌}
-use Rattle.scope.specs.Slices.{sizes, fits, fits_with, links_of}
+use Rattle.scope.specs.Slices.{sizes, fits, fits_with, links_of, float_zero}
 use Rattle.scope.specs.Answers.{refuse_if}
 use Rattle.check_mesh.specs.Checked.{slices_at}
 use Rattle.file_read.specs.Format.{right, file_counts, file_slices, file_points, all_finite, contents_refusal, link_refusal, read_refusal}
@@ -41,8 +41,8 @@ enough b l r =
     ) refl
 
 or_assoc : {A : Type 0} (a b c : Option A) → ((a or_else b) or_else c) ≡ (a or_else b or_else c)
-or_assoc none b c = refl
-or_assoc (some x) b c = refl
+or_assoc None b c = refl
+or_assoc (Some x) b c = refl
 
 -- so the line does not depend on them
 line-alone : (b : List ℕ) → counter_says b counter_room 6912 ≡ counter_line b
@@ -55,8 +55,7 @@ line-alone b = go (ltb 65536 (length b)) (right b) refl refl
     go false true p q = rw (p, q, enough b (ltb-false 65536 (length b) p) q)
         (ap (λ (o : Option Refusal). saying o (counted (links_of (file_counts b) (file_slices b)))) (or_assoc (refuse_if (not (all_finite (file_points b))) NotFinite) (link_refusal b) (deleted_in (file_counts b) (file_slices b))))
 
-pub in-the-room : (b os es fs vm em fm : List ℕ) (ps : List Float)
-    → 2304 ≡ length os → 16384 ≡ length es → 13312 ≡ length fs → 13312 ≡ length vm → 13312 ≡ length em → 13312 ≡ length fm → 6912 ≡ length ps
-    → counter_says b (sizes (slices_at os es fs vm em fm)) (length ps) ≡ counter_line b
+-- nor on what fills them
+pub in-the-room : (b : List ℕ) → counter_says b (sizes (slices_at (replicate 2304 0) (replicate 16384 0) (replicate 13312 0) (replicate 13312 0) (replicate 13312 0) (replicate 13312 0))) (length (replicate 6912 float_zero)) ≡ counter_line b
 unfolding sizes
-in-the-room b os es fs vm em fm ps o e f v m g p = rw (← o, ← e, ← f, ← v, ← m, ← g, ← p) (line-alone b)
+in-the-room b = rw (length-replicate {0} {A = ℕ} 2304 0, length-replicate {0} {A = ℕ} 16384 0, length-replicate {0} {A = ℕ} 13312 0, length-replicate {0} {A = Float} 6912 float_zero) (line-alone b)

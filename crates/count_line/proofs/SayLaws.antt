@@ -3,7 +3,7 @@ use Prim.Native.Nat.{ℕ, ◌*◌, ◌≤◌, ◌<◌}
 use mathlib.Core.Path.{◌≡◌, refl, sym, ap, ◌∙◌}
 use mathlib.Core.Bool.{Bool, true, false, true≢false}
 use mathlib.Core.List.{List}
-use mathlib.Core.Option.{Option, none, some}
+use Rattle.std.specs.Prelude.{Option, None, Some}
 use native.Mathlib.Omega.{arith}
 use borrow.Author.Tests.{lt-ltb, le-ltb}
 use lib.ListN.{length, take}
@@ -25,14 +25,13 @@ use Rattle.check_mesh.proofs.EntryLaws.{t-fits, links-sound}
 use Rattle.file_read.specs.Format.{file_counts, file_slices, file_points, contents_refusal, link_refusal, read_refusal, Lent, laid, read_leaves}
 use Rattle.file_read.proofs.ReadLaws.{contents-none, fits-first, said, links-read, marks-read}
 use Rattle.count_line.specs.Asks.{there, Countable}
-use Rattle.count_fields.specs.declared.count.Tally.{Tally}
 use Rattle.count_fields.specs.Fields.{counted}
 use Rattle.count_line.specs.Line.{line_of, refusal_line}
 use Rattle.count_line.specs.Says.{saying, mesh_says, counter_says, counter_leaves}
 use Rattle.count_line.proofs.MarkLaws.{there-not}
 
 -- ---- a mesh without fault in which nothing is deleted
-countable : (c : Counts) (s : Slices) → Fits c s → fault (links_of c s) (marks_of c s) ≡ none → marked (marks_of c s) ≡ none → Countable c s.outs s.edges s.faces
+countable : (c : Counts) (s : Slices) → Fits c s → fault (links_of c s) (marks_of c s) ≡ None → marked (marks_of c s) ≡ None → Countable c s.outs s.edges s.faces
 unfolding links_of marks_of used
 countable c s h q e =
     let m = links_of c s in
@@ -64,10 +63,10 @@ module _ (c : Counts) (s : Slices) {r : Bool} (e : r ≡ there (marked (marks_at
   deleted-says f = go (marked (marks_of c s)) (sym e ∙ f)
     where
       go : (o : Option Place) → there o ≡ true → saying (refuse o MarkedDeleted) (counted (links_of c s)) ≡ refusal_line 4
-      go none q = absurd (true≢false (sym q))
-      go (some x) q = refl
+      go None q = absurd (true≢false (sym q))
+      go (Some x) q = refl
 
-  unmarked-so : r ≡ false → marked (marks_of c s) ≡ none
+  unmarked-so : r ≡ false → marked (marks_of c s) ≡ None
   unfolding marks_of used
   unmarked-so f = there-not (marked (marks_of c s)) e f
 
@@ -75,14 +74,8 @@ module _ (c : Counts) (s : Slices) {r : Bool} (e : r ≡ there (marked (marks_at
   unfolding links_of used
   fields-say f = rw (unmarked-so f) refl
 
-  pub may-count : Fits c s → fault (links_of c s) (marks_of c s) ≡ none → r ≡ false → Countable c s.outs s.edges s.faces
+  pub may-count : Fits c s → fault (links_of c s) (marks_of c s) ≡ None → r ≡ false → Countable c s.outs s.edges s.faces
   may-count h q f = countable c s h q (unmarked-so f)
-
--- what is counted in the used part of the slices
-pub count-used : (c : Counts) (os es fs : List ℕ) {t : Tally} → Countable c os es fs
-    → t ≡ counted (links_at (length (take c.v os)) c.e (length (take c.f fs)) (take c.v os) (take (8 * c.e) es) (take c.f fs))
-    → t ≡ counted (links_at c.v c.e c.f (take c.v os) (take (8 * c.e) es) (take c.f fs))
-count-used c os es fs h e = rw (length-take-le c.v os h.outs, length-take-le c.f fs h.faces) at e
 
 -- ---- a file that was read
 module _ (b : List ℕ) (old : Lent) where
@@ -99,7 +92,7 @@ module _ (b : List ℕ) (old : Lent) where
   unfolding counter_leaves
   long-leaves l = rw (lt-ltb 65536 (length b) l) refl
 
-  pub refused_says : {r : Refusal} → length b ≤ 65536 → read_refusal b (sizes old.slices) (length old.points) ≡ some r
+  pub refused_says : {r : Refusal} → length b ≤ 65536 → read_refusal b (sizes old.slices) (length old.points) ≡ Some r
       → counter_says b (sizes old.slices) (length old.points) ≡ refusal_line (said_of r).number
   unfolding counter_says
   refused_says l e = rw (le-ltb 65536 (length b) l, e) refl
@@ -108,9 +101,9 @@ module _ (b : List ℕ) (old : Lent) where
   unfolding counter_leaves
   short-leaves l e = rw (le-ltb 65536 (length b) l) e
 
-  module _ (new : Lent) {c : Counts} (e : c ≡ file_counts b) (o : read_refusal b (sizes old.slices) (length old.points) ≡ none)
+  module _ (new : Lent) {c : Counts} (e : c ≡ file_counts b) (o : read_refusal b (sizes old.slices) (length old.points) ≡ None)
       (q : new ≡ read_leaves (read_refusal b (sizes old.slices) (length old.points)) b old) where
-    parts : (contents_refusal b (sizes old.slices) (length old.points) ≡ none) × (link_refusal b ≡ none)
+    parts : (contents_refusal b (sizes old.slices) (length old.points) ≡ None) × (link_refusal b ≡ None)
     unfolding read_refusal
     parts = or-none _ _ o
 
@@ -122,7 +115,7 @@ module _ (b : List ℕ) (old : Lent) where
     filled = q ∙ ap (λ (r : Option Refusal). read_leaves r b old) o
 
     -- it fits and has no fault
-    pub read-sound : Fits c new.slices × (fault (links_of c new.slices) (marks_of c new.slices) ≡ none)
+    pub read-sound : Fits c new.slices × (fault (links_of c new.slices) (marks_of c new.slices) ≡ None)
     read-sound =
         let k = links-sound c new.slices (said b old new e held filled ∙ ap answered parts.1) in
         ((t-fits c new.slices).so k.0, k.1)

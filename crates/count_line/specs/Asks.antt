@@ -1,13 +1,12 @@
 -- What counting asks of a mesh in its slices. Assumes nothing.
-use Rattle.std.specs.Prelude.{ℕ, ◌*◌, ◌≤◌, Bool, true, false, List, length, take}
-use Rattle.std.proofs.Math.Option.{Option, none, some}
+use Rattle.std.specs.Prelude.{ℕ, ◌*◌, ◌≤◌, Bool, true, false, List, length, take, Option, None, Some}
 use Rattle.scope.specs.declared.records.Counts.{Counts}
 use Rattle.count_fields.specs.Count.{Linked}
 
 -- there is one
 abbrev pub there : {A : Type 0} → Option A → Bool
-there none = false
-there (some x) = true
+there None = false
+there (Some x) = true
 
 -- marks as long as the counts, which are small
 pub record MarksFit (c : Counts) (vm em fm : List ℕ) : Type 0 where

@@ -1,6 +1,5 @@
 -- What the counter says of a file (document 01, section 5), for any bytes. Assumes nothing.
-use Rattle.std.specs.Prelude.{ℕ, not, List, ltb, length}
-use Rattle.std.proofs.Math.Option.{Option, none, some}
+use Rattle.std.specs.Prelude.{ℕ, not, List, ltb, length, Option, None, Some}
 use Rattle.scope.specs.declared.records.Counts.{Counts}
 use Rattle.scope.specs.declared.answers.Refusal.{Refusal}
 use Rattle.scope.specs.declared.answers.Refusal.TheVariants.{ShortSlice, MarkedDeleted, BadContents, NotFinite}
@@ -15,8 +14,8 @@ use Rattle.count_line.specs.Line.{line_of, refusal_line}
 
 -- §5: one line, of the fields or of the refusal
 abbrev pub saying : Option Refusal → Tally → List ℕ
-saying none t = line_of t
-saying (some r) t = refusal_line (said_of r).number
+saying None t = line_of t
+saying (Some r) t = refusal_line (said_of r).number
 
 -- §5: anything deleted gives 4
 abbrev pub deleted_in : Counts → Slices → Option Refusal

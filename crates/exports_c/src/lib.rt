@@ -1,4 +1,5 @@
-// The calls under their C names: the static library that C and Rust programs link. Each is the call of the same name in exports, with its clauses.
+// The calls under their C names: the static library that C and Rust programs link. Each is the call of the same name in exports, with its clauses: they
+// stand twice, as no crate can stand on a static library.
 
 #![tactic(auto)]
 

@@ -2,14 +2,13 @@
 
 ghost use Rattle.std.specs.Prelude.{◌≡◌};
 ghost use Rattle.scope.specs.Answers.{said_of, said_checked};
-ghost use Rattle.exports_flat.specs.Flat.{flat_of, done, flat_reading, flat_writing, flag_of, flag_number, flat_subdivided};
+ghost use Rattle.exports_flat.specs.Flat.{flat_of, flat_reading, flat_writing, flag_of, flat_subdivided};
 
-use file_read::read::Reading;
-use file_write::write::Writing;
-use scope::answers::{Checked, Refusal, Said, Subdivided, in_numbers};
+use scope::answers::{Refusal, Said};
+use scope::records::Counts;
 
 #[repr(C)]
-#[derive(Clone, Copy)]
+#[derive(Clone, Copy, Debug, PartialEq, Eq)]
 pub struct Flat {
     pub number: u32,
     pub first: u32,
@@ -19,7 +18,7 @@ pub struct Flat {
 
 // What a reader answers, and the counts of the mesh that was read; zeros if none was.
 #[repr(C)]
-#[derive(Clone, Copy)]
+#[derive(Clone, Copy, Debug, PartialEq, Eq)]
 pub struct FlatRead {
     pub answer: Flat,
     pub v: usize,
@@ -29,7 +28,7 @@ pub struct FlatRead {
 
 // What a writer answers, and the number of bytes that it wrote.
 #[repr(C)]
-#[derive(Clone, Copy)]
+#[derive(Clone, Copy, Debug, PartialEq, Eq)]
 pub struct FlatWritten {
     pub answer: Flat,
     pub length: usize,
@@ -37,7 +36,7 @@ pub struct FlatWritten {
 
 // What a subdivision answers, the counts of the result and the flag for the next call; zeros if there is none.
 #[repr(C)]
-#[derive(Clone, Copy)]
+#[derive(Clone, Copy, Debug, PartialEq, Eq)]
 pub struct FlatSubdivided {
     pub answer: Flat,
     pub v: usize,
@@ -46,126 +45,106 @@ pub struct FlatSubdivided {
     pub flag: u32,
 }
 
-fn flat_done() -> Flat
-    ensures { result ≡ flat_of done }
-{
-    Flat {
-        number: 0,
-        first: 0,
-        second: 0,
-        third: 0,
+const DONE: Flat = Flat {
+    number: 0,
+    first: 0,
+    second: 0,
+    third: 0,
+};
+
+impl From<Said> for Flat {
+    ghost from_gives = { λ s flat. flat ≡ flat_of s };
+
+    fn from(s: Said) -> Flat {
+        Flat {
+            number: s.number,
+            first: s.values[0],
+            second: s.values[1],
+            third: s.values[2],
+        }
     }
 }
 
-fn in_fields(s: Said) -> Flat
-    ensures { result ≡ flat_of s }
-{
-    Flat {
-        number: s.number,
-        first: s.values[0],
-        second: s.values[1],
-        third: s.values[2],
+impl From<Refusal> for Flat {
+    ghost from_gives = { λ r flat. flat ≡ flat_of (said_of r) };
+
+    fn from(r: Refusal) -> Flat {
+        Flat::from(Said::from(r))
     }
 }
 
-fn flat_refusal(r: Refusal) -> Flat
-    ensures { result ≡ flat_of (said_of r) }
-{
-    in_fields(in_numbers(r))
-}
-
-pub fn flat_checked(x: Checked) -> Flat
+// Functions and no `From`: each has the name of its definition.
+#[tactic(auto, unfolding(scope::specs::Answers::said_checked))]
+pub fn flat_checked(x: Result<(), Refusal>) -> Flat
     ensures { result ≡ flat_of (said_checked x) }
 {
     match x {
-        Checked::Sound => flat_done(),
-        Checked::Unsound(r) => flat_refusal(r),
+        Ok(()) => DONE,
+        Err(r) => Flat::from(r),
     }
 }
 
-pub fn flat_reading(x: Reading) -> FlatRead
+#[tactic(auto, unfolding(crate::specs::Flat::flat_reading))]
+pub fn flat_reading(x: Result<Counts, Refusal>) -> FlatRead
     ensures { result ≡ flat_reading x }
 {
     match x {
-        Reading::Read(c) => {
-            let a = flat_done();
-            FlatRead {
-                answer: a,
-                v: c.v,
-                e: c.e,
-                f: c.f,
-            }
-        }
-        Reading::Refused(r) => {
-            let a = flat_refusal(r);
-            FlatRead {
-                answer: a,
-                v: 0,
-                e: 0,
-                f: 0,
-            }
-        }
+        Ok(c) => FlatRead {
+            answer: DONE,
+            v: c.v,
+            e: c.e,
+            f: c.f,
+        },
+        Err(r) => FlatRead {
+            answer: Flat::from(r),
+            v: 0,
+            e: 0,
+            f: 0,
+        },
     }
 }
 
-pub fn flat_writing(x: Writing) -> FlatWritten
+#[tactic(auto, unfolding(crate::specs::Flat::flat_writing))]
+pub fn flat_writing(x: Result<usize, Refusal>) -> FlatWritten
     ensures { result ≡ flat_writing x }
 {
     match x {
-        Writing::Written(n) => {
-            let a = flat_done();
-            FlatWritten {
-                answer: a,
-                length: n,
-            }
-        }
-        Writing::Refused(r) => {
-            let a = flat_refusal(r);
-            FlatWritten {
-                answer: a,
-                length: 0,
-            }
-        }
+        Ok(length) => FlatWritten {
+            answer: DONE,
+            length,
+        },
+        Err(r) => FlatWritten {
+            answer: Flat::from(r),
+            length: 0,
+        },
     }
 }
 
-// A flag from a number, and back.
+// A flag from a number, and back: C has no type of its own for it here.
 pub fn flag_of(n: u32) -> bool
     ensures { result ≡ flag_of n }
 {
     n != 0
 }
 
-fn flag_number(flag: bool) -> u32
-    ensures { result ≡ flag_number flag }
-{
-    if flag { 1 } else { 0 }
-}
-
-pub fn flat_subdivided(x: Subdivided) -> FlatSubdivided
+#[tactic(auto, unfolding(crate::specs::Flat::flat_subdivided))]
+pub fn flat_subdivided(x: Result<(Counts, bool), Refusal>) -> FlatSubdivided
     ensures { result ≡ flat_subdivided x }
 {
     match x {
-        Subdivided::Done(n, next) => {
-            let a = flat_done();
-            let flag = flag_number(next);
-            FlatSubdivided {
-                answer: a,
-                v: n.v,
-                e: n.e,
-                f: n.f,
-                flag: flag,
-            }
-        }
-        Subdivided::Refused(r) => {
-            let a = flat_refusal(r);
-            FlatSubdivided {
-                answer: a,
-                v: 0,
-                e: 0,
-                f: 0,
-                flag: 0,
-            }
-        }
+        Ok((made, next)) => FlatSubdivided {
+            answer: DONE,
+            v: made.v,
+            e: made.e,
+            f: made.f,
+            flag: u32::from(next),
+        },
+        Err(r) => FlatSubdivided {
+            answer: Flat::from(r),
+            v: 0,
+            e: 0,
+            f: 0,
+            flag: 0,
+        },
     }
 }

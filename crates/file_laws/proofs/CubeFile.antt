@@ -1,4 +1,5 @@
 -- The cube's file, read and written again, by computation. Assumes nothing.
+use Rattle.std.specs.Prelude.{Ok}
 use Prim.Native.Nat.{ℕ, ◌≤◌}
 use mathlib.Core.Path.{◌≡◌, refl}
 use mathlib.Core.Bool.{true}
@@ -12,7 +13,6 @@ use Rattle.scope.specs.Links.{partner, loop, around, is_v, is_h, is_f}
 use Rattle.scope.specs.Check.{every, c1_vertex, c1_halfedge, c1_face, c2, c3, c4, c5, c6, c7, c8, c9, fault}
 use Rattle.scope.specs.declared.records.Counts.{Counts}
 use Rattle.scope.specs.Slices.{float_zero, sizes, fits, fits_with, used, links_of, marks_of}
-use Rattle.file_read.specs.declared.read.Reading.TheVariants.{Read}
 use Rattle.file_read.specs.Format.{Lent, lent_at, word_at, bits_at, file_counts, row_right, rows_right, marks_right, right, file_slices, file_points, all_finite, contents_refusal, link_refusal, read_refusal}
 use Rattle.file_read.proofs.FillLaws.{all-at}
 use Rattle.file_laws.specs.Bytes.{Bytes}
@@ -35,7 +35,7 @@ cube-bytes : Bytes cube_file
 cube-bytes = record { at = λ i q. ltb-true (get_or cube_file i 0) 256 (all-at (λ i. ltb (get_or cube_file i 0) 256) 722 all-bytes i q) }
 
 -- it is read with 8 vertices, 12 edges and 6 faces
-pub cube-read : read_answer cube_file cube_room ≡ Read cube_counts
+pub cube-read : read_answer cube_file cube_room ≡ Ok cube_counts
 unfolding read_refusal contents_refusal link_refusal right rows_right row_right marks_right file_counts file_slices file_points all_finite word_at bits_at of_bits fits fits_with sizes used links_of marks_of fault every c1_vertex c1_halfedge c1_face c2 c3 c4 c5 c6 c7 c8 c9 is_v is_h is_f partner loop around all first has distinct round range
 cube-read = refl
 

@@ -12,9 +12,9 @@ use lib.Ieee.Bits.{to_bits-of_bits}
 use lib.Ieee.Scale.{finite}
 use Rattle.scope.specs.Lists.{range}
 use Rattle.file_read.specs.Format.{word_at, bits_at, word_bytes}
-use Rattle.file_read.proofs.FiniteLaws.{finite-no-nan}
+use Rattle.file_read.proofs.FiniteLaws.{finite_no_nan}
 use Rattle.file_write.specs.Puts.{number_bytes, mark_bytes}
-use Rattle.text.proofs.PutLaws.{flat}
+use Rattle.std.specs.List.{flat_map}
 use Rattle.file_laws.specs.Bytes.{Bytes}
 
 -- ---- one word
@@ -66,7 +66,7 @@ two-words m n x e l =
     rw (e, a, b)
 
 bits_back : (n : ℕ) → n < 18446744073709551616 → finite (of_bits binary64 n) ≡ true → to_bits binary64 (of_bits binary64 n) ≡ n
-bits_back n l f = to_bits-of_bits binary64 n l (finite-no-nan (of_bits binary64 n) f)
+bits_back n l f = to_bits-of_bits binary64 n l (finite_no_nan (of_bits binary64 n) f)
 
 pub number-back : (b : List ℕ) (p : ℕ) → Bytes b → p + 7 < length b → finite (of_bits binary64 (bits_at b p)) ≡ true → number_bytes (of_bits binary64 (bits_at b p)) ≡ take 8 (drop p b)
 unfolding bits_at
@@ -92,14 +92,14 @@ mark-back b p l m = mark-same (get_or b p 0) m ∙ sym (ap (λ (r : List ℕ). t
 
 -- ---- a run of items
 pub run-back : {A : Type 0} (code : A → List ℕ) (w : ℕ) (f : ℕ → A) (b : List ℕ) (from n k : ℕ) → ((i : ℕ) → i < k + n → code (f i) ≡ take w (drop (from + w * i) b))
-    → flat code (map f (range k n)) ≡ take (w * n) (drop (from + w * k) b)
-unfolding flat range
+    → flat_map code (map f (range k n)) ≡ take (w * n) (drop (from + w * k) b)
+unfolding range
 run-back code w f b from zero k h = sym (ap (λ (j : ℕ). take j (drop (from + w * k) b)) (mul-zero w))
 run-back code w f b from (suc n) k h =
     let p = from + w * k in
     let e : w * suc n ≡ w + w * n = (let m = mul-suc w n in omega arith) in
     let g : from + w * suc k ≡ p + w = (let m = mul-suc w k in omega arith) in
-    ap (λ (r : List ℕ). r ++ flat code (map f (range (suc k) n))) (h k (omega arith))
+    ap (λ (r : List ℕ). r ++ flat_map code (map f (range (suc k) n))) (h k (omega arith))
     ∙ ap (λ (r : List ℕ). take w (drop p b) ++ r)
     (run-back code w f b from n (suc k) (λ i q. h i (omega arith)) ∙ ap (λ (j : ℕ). take (w * n) (drop j b)) g ∙ ap (λ (r : List ℕ). take (w * n) r) (sym (drop-drop w p b)))
     ∙ sym (ap (λ (j : ℕ). take j (drop p b)) e ∙ take-add w (w * n) (drop p b))

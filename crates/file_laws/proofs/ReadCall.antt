@@ -3,7 +3,7 @@ use Prim.Native.Nat.{ℕ, ◌+◌, ◌*◌, ◌≤◌, ◌<◌}
 use mathlib.Core.Path.{◌≡◌, refl, sym, ap, ◌∙◌, subst⁻¹}
 use mathlib.Core.Bool.{true}
 use mathlib.Core.List.{List}
-use mathlib.Core.Option.{Option, none, some}
+use Rattle.std.specs.Prelude.{Option, None, Some, Ok}
 use native.Mathlib.Omega.{arith}
 use lib.ListN.{length, take}
 use lib.Seq.{take_all}
@@ -13,12 +13,10 @@ use Rattle.scope.specs.declared.answers.Refusal.{Refusal}
 use Rattle.scope.specs.Lists.{◌or_else◌, over}
 use Rattle.scope.specs.Slices.{Slices, sizes, fits, fits_with, used, points_of, float_zero}
 use Rattle.mesh.proofs.SliceLaws.{length-lay}
-use Rattle.file_read.specs.declared.read.Reading.TheVariants.{Read}
 use Rattle.file_read.specs.Format.{Lent, bits_at, file_counts, file_slices, file_points, file_end, file_of, all_finite, right, numbers, laid, read_refusal, contents_refusal, read_leaves, write_refusal}
 use Rattle.file_read.proofs.FillLaws.{length_run}
-use Rattle.file_read.proofs.ReadLaws.{reading-read, contents-none, right-room, sizes-laid, front, used-laid}
-use Rattle.file_write.specs.declared.write.Writing.TheVariants.{Written}
-use Rattle.file_write.proofs.WriteLaws.{all-well, too_long, is-written, is-refused, fits_both, leaves-file, leaves-old}
+use Rattle.file_read.proofs.ReadLaws.{reading-read, contents-none, right_room, sizes-laid, front, used-laid}
+use Rattle.file_write.proofs.WriteLaws.{all_well, too_long, answer_none, answer_some, says_written, says_refused, fits_both, leaves_file, leaves_old}
 use Rattle.file_laws.specs.Bytes.{Bytes}
 use Rattle.file_laws.specs.Calls.{read_answer, read_left, Writes, ReadWrites, WritesNothing, ReadTooLong}
 use Rattle.file_laws.proofs.Back.{written-again}
@@ -68,34 +66,34 @@ module _ (b : List ℕ) (l : Lent) (old : List ℕ) (r : right b ≡ true) (e : 
 
   writes : Bytes b → length b ≤ length old → Writes c g b old
   writes h q =
-      let end = right-room b refl r in
-      let a = all-well c g.slices g.points (length old) fit-left.0 fit-left.1 finite-left (omega arith) in
+      let end = right_room b refl r in
+      let a = answer_none o refl (sym (all_well c g.slices g.points (length old) fit-left.0 fit-left.1 finite-left (omega arith))) in
       record {
-        answer = sym a ∙ ap (λ n. Written n) (sym end);
-        left = sym (leaves-file o c g.slices g.points old (is-written o (file_end c) (sym a))) ∙ ap (λ (k : List ℕ). over k old) (is-file h);
+        answer = sym (says_written o (file_end c) a end);
+        left = sym (leaves_file o c g.slices g.points old a) ∙ ap (λ (k : List ℕ). over k old) (is-file h);
       }
 
   writes_nothing : length old < length b → WritesNothing c g old
   writes_nothing q =
-      let end = right-room b refl r in
-      let a = too_long c g.slices g.points (length old) fit-left.0 fit-left.1 finite-left (omega arith) in
-      record { answer = sym a; left = sym (leaves-old o c g.slices g.points old (is-refused o (file_end c) (sym a))) }
+      let end = right_room b refl r in
+      let a = answer_some o refl (sym (too_long c g.slices g.points (length old) fit-left.0 fit-left.1 finite-left (omega arith))) in
+      record { answer = sym (says_refused o (file_end c) a); left = sym (leaves_old o c g.slices g.points old a) }
 
 -- ---- what an answer of read tells
-first-none : (o p : Option Refusal) → (o or_else p) ≡ none → o ≡ none
-first-none none p e = refl
-first-none (some r) p e = e
+first-none : (o p : Option Refusal) → (o or_else p) ≡ None → o ≡ None
+first-none None p e = refl
+first-none (Some r) p e = e
 
-contents-well : (b : List ℕ) (l : Lent) → read_refusal b (sizes l.slices) (length l.points) ≡ none → contents_refusal b (sizes l.slices) (length l.points) ≡ none
+contents-well : (b : List ℕ) (l : Lent) → read_refusal b (sizes l.slices) (length l.points) ≡ None → contents_refusal b (sizes l.slices) (length l.points) ≡ None
 unfolding read_refusal
 contents-well b l e = first-none (contents_refusal b (sizes l.slices) (length l.points)) _ e
 
-left_is : (b : List ℕ) (l : Lent) → read_refusal b (sizes l.slices) (length l.points) ≡ none → read_left b l ≡ laid (file_slices b) (file_points b) l
+left_is : (b : List ℕ) (l : Lent) → read_refusal b (sizes l.slices) (length l.points) ≡ None → read_left b l ≡ laid (file_slices b) (file_points b) l
 unfolding read_leaves
 left_is b l e = rw (e)
 
 -- what holds of the counts and of the mesh in a file that is read holds of what is answered and left
-read-so : (P : Counts → Lent → Type 0) (b : List ℕ) (l : Lent) (c : Counts) → read_answer b l ≡ Read c
+read-so : (P : Counts → Lent → Type 0) (b : List ℕ) (l : Lent) (c : Counts) → read_answer b l ≡ Ok c
     → (right b ≡ true → fits_with (file_counts b) (sizes l.slices) (length l.points) ≡ true → all_finite (file_points b) ≡ true → P (file_counts b) (laid (file_slices b) (file_points b) l))
     → P c (read_left b l)
 read-so P b l c e p =

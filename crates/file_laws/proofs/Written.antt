@@ -3,7 +3,7 @@ use Prim.Native.Nat.{ℕ, zero, suc, ◌*◌, ◌≤◌}
 use mathlib.Core.Path.{◌≡◌, refl, sym, ap, ◌∙◌, subst⁻¹}
 use mathlib.Core.Bool.{Bool, true, false, not}
 use mathlib.Core.List.{List, [], ◌∷◌}
-use mathlib.Core.Option.{Option, none, some}
+use Rattle.std.specs.Prelude.{Option, None, Some, Ok}
 use native.Mathlib.Omega.{arith}
 use borrow.Author.Tests.{leb-true}
 use lib.Dec.{eqb}
@@ -20,8 +20,7 @@ use Rattle.scope.specs.Answers.{refuse_if, refuse}
 use Rattle.mesh.proofs.SliceLaws.{length_over, get_d_over}
 use Rattle.check_mesh.proofs.EntryLaws.{t-fits}
 use Rattle.file_read.specs.Format.{Lent, file_of, file_end, marks_bytes, all_finite, reading, read_refusal, contents_refusal, link_refusal, read_leaves, write_refusal}
-use Rattle.file_write.specs.declared.write.Writing.TheVariants.{Written}
-use Rattle.file_write.proofs.WriteLaws.{is-written, written_all, tests, fits_both, leaves-file}
+use Rattle.file_write.proofs.WriteLaws.{is-written, written_all, tests, fits_both, leaves_file}
 use Rattle.file_laws.specs.Bytes.{Bytes}
 use Rattle.file_laws.specs.Trip.{Small, Doubles, Fair, filed, GivenBack}
 use Rattle.file_laws.specs.Calls.{write_answer, write_left, Typed, owed, owed_left, Reads, GivenAgain, WrittenReads, WrittenSound}
@@ -54,7 +53,7 @@ fault-filed c s =
     ∙ fault-alike (links_of c s) (marks_of c (filed c s)) (marks_of c s) (marks-filed c s)
 
 -- ---- a file that holds a mesh, read
-second : (b : Bool) (o : Option Refusal) → ((none or_else (refuse_if (not b) ShortSlice or_else none)) or_else o) ≡ (refuse_if (not b) ShortSlice or_else o)
+second : (b : Bool) (o : Option Refusal) → ((None or_else (refuse_if (not b) ShortSlice or_else None)) or_else o) ≡ (refuse_if (not b) ShortSlice or_else o)
 second true o = refl
 second false o = refl
 
@@ -71,8 +70,8 @@ module _ (b : List ℕ) (c : Counts) (g l : Lent) (k : GivenBack b c (filed c g.
 
   leaves-owed : (o : Option Refusal) → read_leaves o b l ≡ owed_left o c g l
   unfolding read_leaves owed_left
-  leaves-owed none = rw (k.slices, k.points)
-  leaves-owed (some r) = refl
+  leaves-owed None = rw (k.slices, k.points)
+  leaves-owed (Some r) = refl
 
   reads : Reads c g l b
   reads = record { answer = rw (is-owed, k.counts); left = rw (is-owed) (leaves-owed (owed c g l)) }
@@ -106,8 +105,8 @@ front-over l old n e b =
 file-long : (b : List ℕ) (c : Counts) (s : Slices) (ps : List Float) → GivenBack b c s ps → length b ≡ file_end c
 file-long b c s ps k = (said b k.right).end ∙ ap (λ (c : Counts). file_end c) k.counts
 
-module _ (c : Counts) (g : Lent) (old : List ℕ) (n : ℕ) (t : Typed g) (w : write_answer c g old ≡ Written n) where
-  no-refusal : write_refusal c g.slices g.points (length old) ≡ none
+module _ (c : Counts) (g : Lent) (old : List ℕ) (n : ℕ) (t : Typed g) (w : write_answer c g old ≡ Ok n) where
+  no-refusal : write_refusal c g.slices g.points (length old) ≡ None
   no-refusal = is-written (write_refusal c g.slices g.points (length old)) (file_end c) w
 
   finite-given : all_finite (points_of c g.points) ≡ true
@@ -123,7 +122,7 @@ module _ (c : Counts) (g : Lent) (old : List ℕ) (n : ℕ) (t : Typed g) (w : w
       let e : n ≡ file_end c = written_all (write_refusal c g.slices g.points (length old)) (file_end c) w in
       let k = file-long file c (filed c g.slices) (points_of c g.points) held in
       let r = leb-true (file_end c) (length old) (tests c g.slices g.points (length old) no-refusal).2 in
-      ap (λ (r : List ℕ). take n r) (sym (leaves-file (write_refusal c g.slices g.points (length old)) c g.slices g.points old no-refusal))
+      ap (λ (r : List ℕ). take n r) (sym (leaves_file (write_refusal c g.slices g.points (length old)) c g.slices g.points old no-refusal))
       ∙ front-over file old n (omega arith) (omega arith)
 
 pub written-reads : WrittenReads
@@ -133,11 +132,11 @@ written-reads c g old n t w = (
 )
 
 -- ---- with room, and a consistent mesh
-owed_none : (c : Counts) (g l : Lent) → fits_with c (sizes l.slices) (length l.points) ≡ true → fault (links_of c g.slices) (marks_of c g.slices) ≡ none → owed c g l ≡ none
+owed_none : (c : Counts) (g l : Lent) → fits_with c (sizes l.slices) (length l.points) ≡ true → fault (links_of c g.slices) (marks_of c g.slices) ≡ None → owed c g l ≡ None
 unfolding owed
 owed_none c g l e f = rw (e, f)
 
-given-again : (c : Counts) (g l : Lent) (b : List ℕ) → Reads c g l b → owed c g l ≡ none → GivenAgain c g l b
+given-again : (c : Counts) (g l : Lent) (b : List ℕ) → Reads c g l b → owed c g l ≡ None → GivenAgain c g l b
 unfolding owed_left
 given-again c g l b r e = record { answer = r.answer ∙ ap (λ o. reading o c) e; left = r.left ∙ ap (λ o. owed_left o c g l) e }
 

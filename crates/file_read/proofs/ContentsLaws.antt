@@ -53,9 +53,9 @@ by-marks b c e l w r q =
 abbrev the-marks : List ℕ → Bool
 the-marks b = let c = file_counts b in marks_right b (marks_from c) (c.v + c.e + c.f)
 
-pub right-long : (b : List ℕ) → right b ≡ true → 64 ≤ length b
+pub right_long : (b : List ℕ) → right b ≡ true → 64 ≤ length b
 unfolding right
-right-long b e =
+right_long b e =
     leb-true 64 (length b)
     (and_first (leb 64 (length b)) (eqb (content b 0) 1)
     (and_first (leb 64 (length b) && eqb (content b 0) 1) (rows_right b (file_counts b))

@@ -3,12 +3,17 @@ use Prim.Native.Nat.{ℕ, zero, suc, ◌+◌, ◌≤◌, ◌<◌}
 use mathlib.Core.Path.{◌≡◌, refl, sym, ap, ◌∙◌}
 use mathlib.Core.Bool.{Bool, true, false, ◌&&◌}
 use mathlib.Core.List.{List, [], ◌∷◌, map}
+use native.Mathlib.Nat.{zero-add}
+use Rattle.std.specs.List.{list_all, range_with_len}
+use Rattle.std.proofs.lemmas.List.{length-drop, length-take-le, get_or-take, get_or-drop}
+use Rattle.std.proofs.lemmas.List.FromFn.{length-range_with_len, get_or-range_with_len}
 use native.Mathlib.Omega.{arith}
 use lib.Dec.{eqb}
 use borrow.Author.Tests.{eqb-true, eqb-false}
-use lib.ListN.{length, get_or, set, take, length-set, length-map, get_or-eq_default}
+use lib.ListN.{length, get_or, set, take, drop, replicate, length-set}
 use lib.Seq.{get_or-set_same, get_or-set_other, ext_get_or}
 use Rattle.scope.specs.Lists.{lay, range, all}
+use Rattle.file_read.specs.Cells.{length-row}
 use Rattle.mesh.proofs.SliceLaws.{length-lay}
 
 -- the first i places of l are those of t
@@ -37,11 +42,6 @@ pub filled-all : {A : Type 0} {d : A} {i : ℕ} {l t : List A} → Filled d i l 
 filled-all {A} {d} {i} {l} {t} p b = ext_get_or d l t p.size (λ k q. p.same k (omega arith))
 
 -- ---- a run of values
-pub length-range : (k n : ℕ) → length (range k n) ≡ n
-unfolding range
-length-range k zero = refl
-length-range k (suc n) = ap suc (length-range (suc k) n)
-
 pub at-run : {A : Type 0} (f : ℕ → A) (k n i : ℕ) (d : A) → i < n → get_or (map f (range k n)) i d ≡ f (k + i)
 unfolding range
 at-run f k zero i d b = absurd (omega arith)
@@ -50,9 +50,6 @@ at-run f k (suc n) (suc i) d b = let e : suc k + i ≡ k + suc i = omega arith i
 
 pub at_place : {A : Type 0} (f : ℕ → A) (n i : ℕ) (d : A) → i < n → get_or (map f (range 0 n)) i d ≡ f i
 at_place f n i d b = let e : 0 + i ≡ i = omega arith in at-run f 0 n i d b ∙ ap f e
-
-pub past-run : {A : Type 0} (f : ℕ → A) (k n i : ℕ) (d : A) → n ≤ i → get_or (map f (range k n)) i d ≡ d
-past-run f k n i d b = get_or-eq_default (map f (range k n)) d (let e = length-map (range k n) f in let g = length-range k n in omega arith)
 
 -- what stands in a slice that a list is laid into
 pub at-lay : {A : Type 0} (z d : A) (l old : List A) (i : ℕ) → i < length old → get_or (lay z l old) i d ≡ get_or l i z
@@ -82,6 +79,12 @@ laid-length {A} {d} {z} {ws} {old} p = p.filled.size ∙ length-lay z ws old
 pub laid-all : {A : Type 0} {d z : A} {ws old : List A} {i : ℕ} {l : List A} → Laid d z ws old i l → length l ≤ i → l ≡ lay z ws old
 laid-all p b = filled-all p.filled b
 
+-- nothing laid is the value in every place
+pub lay_none : {A : Type 0} (z : A) (old : List A) → replicate (length old) z ≡ lay z [] old
+unfolding lay
+lay_none z [] = refl
+lay_none {A} z (y ∷ old) = ap {B = List A} (λ r. z ∷ r) (lay_none z old)
+
 -- the front of a list laid
 pub take-lay : {A : Type 0} (z : A) (n : ℕ) (l old : List A) → n ≤ length l → n ≤ length old → take n (lay z l old) ≡ take n l
 unfolding lay
@@ -91,7 +94,7 @@ take-lay z (suc n) (x ∷ l) [] a b = absurd (omega arith)
 take-lay {A} z (suc n) (x ∷ l) (y ∷ old) a b = ap {B = List A} (λ r. x ∷ r) (take-lay z n l old (omega arith) (omega arith))
 
 pub length_run : {A : Type 0} (f : ℕ → A) (n : ℕ) → length (map f (range 0 n)) ≡ n
-length_run f n = length-map (range 0 n) f ∙ length-range 0 n
+length_run f n = length-row f n
 
 -- what is laid last is there
 pub lay-lay : {A : Type 0} (z : A) (a b old : List A) → lay z a (lay z b old) ≡ lay z a old
@@ -128,27 +131,33 @@ unfolding all
 all-is s t zero e = refl
 all-is s t (suc n) e = rw (all-is s t n (λ i b. e i (omega arith)), e n (omega arith))
 
--- a loop that tests, before its turn i
-pub record Passed (t : ℕ → Bool) (n i : ℕ) : Type 0 where
-  pub within : i ≤ n
-  pub so : all i t ≡ true
+-- a test of each element, as one of each place
+and_assoc : (a b c : Bool) → ((a && b) && c) ≡ (a && (b && c))
+and_assoc true b c = refl
+and_assoc false b c = refl
 
-pub passed_none : {t : ℕ → Bool} {n : ℕ} → Passed t n 0
+and_true : (a : Bool) → a ≡ (a && true)
+and_true true = refl
+and_true false = refl
+
+all_front : (t : ℕ → Bool) (n : ℕ) → all (suc n) t ≡ (t 0 && all n (λ i. t (suc i)))
 unfolding all
-passed_none = record { within = omega arith; so = refl }
+all_front t zero = and_true (t 0)
+all_front t (suc n) = rw (all_front t n) (and_assoc (t 0) (all n (λ i. t (suc i))) (t (suc n)))
 
-all-suc : (t : ℕ → Bool) (i : ℕ) → all i t ≡ true → t i ≡ true → all (suc i) t ≡ true
+pub all_listed : {A : Type 0} (test : A → Bool) (d : A) (l : List A) → list_all test l ≡ all (length l) (λ i. test (get_or l i d))
 unfolding all
-all-suc t i a b = rw (a, b)
+all_listed test d [] = refl
+all_listed test d (x ∷ l) = rw (all_listed test d l) (sym (all_front (λ i. test (get_or (x ∷ l) i d)) (length l)))
 
-pub passed_on : {t : ℕ → Bool} {n i : ℕ} → Passed t n i → i < n → t i ≡ true → Passed t n (i + 1)
-passed_on {t} {n} {i} p b e = record {
-  within = omega arith;
-  so = let q : i + 1 ≡ suc i = omega arith in rw q (all-suc t i p.so e);
-}
+pub all_at_places : {A : Type 0} (test : A → Bool) (d : A) (l : List A) (n : ℕ) (t : ℕ → Bool) → length l ≡ n → ((i : ℕ) → i < n → test (get_or l i d) ≡ t i) → list_all test l ≡ all n t
+all_at_places test d l n t e p = all_listed test d l ∙ rw (e) (all-is (λ i. test (get_or l i d)) t n p)
 
-pub passed-all : {t : ℕ → Bool} {n i : ℕ} → Passed t n i → n ≤ i → true ≡ all n t
-passed-all {t} {n} {i} p b = let w = p.within in let q : n ≡ i = omega arith in rw q (sym p.so)
+pub all_below : (t : ℕ → Bool) (n : ℕ) → list_all t (range_with_len 0 n) ≡ all n t
+all_below t n = all_at_places t 0 (range_with_len 0 n) n t (length-range_with_len 0 n) (λ i b. ap t (get_or-range_with_len 0 n i 0 b ∙ zero-add i))
 
-pub passed-not : {t : ℕ → Bool} {n i : ℕ} → Passed t n i → i < n → t i ≡ false → false ≡ all n t
-passed-not {t} {n} {i} p b e = sym (all-fails t n i b e)
+pub all_of_part : (test : ℕ → Bool) (from n m : ℕ) (b : List ℕ) → m ≡ n → from + n ≤ length b → list_all test (take m (drop from b)) ≡ all n (λ i. test (get_or b (from + i) 0))
+all_of_part test from n m b e l =
+    let d = length-drop from b in
+    all_at_places test 0 (take m (drop from b)) n (λ i. test (get_or b (from + i) 0)) (length-take-le m (drop from b) (omega arith) ∙ e)
+    (λ i q. ap test (get_or-take m (drop from b) i 0 (omega arith) ∙ get_or-drop from b i 0))

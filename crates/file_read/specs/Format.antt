@@ -1,6 +1,5 @@
 -- The mesh file (document 01, section 5): what it holds, what is wrong with it, and what a reader and a writer answer and leave. Assumes nothing.
-use Rattle.std.specs.Prelude.{◌≡◌, ℕ, ◌+◌, ◌*◌, ◌/◌, ◌%◌, ◌<◌, Bool, true, not, ◌&&◌, List, [], ◌∷◌, ◌++◌, map, eqb, leb, get_or, length, Float}
-use Rattle.std.proofs.Math.Option.{Option, none, some}
+use Rattle.std.specs.Prelude.{◌≡◌, ℕ, ◌+◌, ◌*◌, ◌/◌, ◌%◌, ◌<◌, Bool, true, not, ◌&&◌, List, [], ◌∷◌, ◌++◌, map, eqb, leb, get_or, length, Float, Option, None, Some, Result, Ok, Err}
 use Rattle.std.specs.Float.{nan, binary64}
 use Rattle.std.specs.Float.Ieee.{of_bits, to_bits}
 use Rattle.std.specs.Float.Ieee.Scale.{finite}
@@ -11,8 +10,6 @@ use Rattle.scope.specs.Lists.{if, ◌or_else◌, range, all, lay, over}
 use Rattle.scope.specs.Check.{fault}
 use Rattle.scope.specs.Slices.{Slices, Sizes, sizes, fits_with, links_of, marks_of, points_of, used, float_zero}
 use Rattle.scope.specs.Answers.{refuse_if, refuse}
-use Rattle.file_read.specs.declared.read.Reading.{Reading}
-use Rattle.file_read.specs.declared.read.Reading.TheVariants.{Read, Refused}
 
 -- ---- §5: little-endian u32 words; the bits of an f64 are two of them
 unfoldable pub word_at : List ℕ → ℕ → ℕ
@@ -129,9 +126,13 @@ link_refusal b = let c = file_counts b in refuse (fault (links_of c (file_slices
 unfoldable pub read_refusal : List ℕ → Sizes → ℕ → Option Refusal
 read_refusal b room points = contents_refusal b room points or_else link_refusal b
 
+-- what a reader answers: the counts of the mesh that is now in the slices, or why there is none
+abbrev pub Reading : Type 0
+Reading = Result Counts Refusal
+
 abbrev pub reading : Option Refusal → Counts → Reading
-reading none c = Read c
-reading (some r) c = Refused r
+reading None c = Ok c
+reading (Some r) c = Err r
 
 -- what is lent to a reader, and to a writer
 pub record Lent : Type 0 where
@@ -163,9 +164,14 @@ laid s ps old =
 abbrev pub no_slices : Slices
 no_slices = record { outs = []; edges = []; faces = []; vmarks = []; emarks = []; fmarks = [] }
 
+-- before the slices are cleared, a mesh whose links are refused is in them
+unfoldable pub load_leaves : Option Refusal → List ℕ → Lent → Lent
+load_leaves None b old = laid (file_slices b) (file_points b) old
+load_leaves (Some r) b old = old
+
 unfoldable pub read_leaves : Option Refusal → List ℕ → Lent → Lent
-read_leaves none b old = laid (file_slices b) (file_points b) old
-read_leaves (some r) b old = laid no_slices [] old
+read_leaves None b old = laid (file_slices b) (file_points b) old
+read_leaves (Some r) b old = laid no_slices [] old
 
 -- ---- the writer: the file that holds a mesh. A mark that is not 0 is written as 1
 unfoldable pub word_bytes : ℕ → List ℕ
@@ -208,5 +214,5 @@ write_refusal c s ps room =
     or_else refuse_if (not (leb (file_end c) room)) NoRoom
 
 unfoldable pub write_leaves : Option Refusal → Counts → Slices → List Float → List ℕ → List ℕ
-write_leaves none c s ps old = over (file_of c s ps) old
-write_leaves (some r) c s ps old = old
+write_leaves None c s ps old = over (file_of c s ps) old
+write_leaves (Some r) c s ps old = old

@@ -11,6 +11,7 @@ use crate::bytes::{finite_at, word};
 use scope::records::Counts;
 
 // The counts of vertices, edges and faces stand in the rows of kinds 2, 3 and 4.
+#[tactic(auto, unfolding(crate::specs::Format::file_counts))]
 pub fn counts(file: &[u8]) -> Counts
     requires { 64 ≤ length file.now }
     ensures value { result ≡ file_counts file.now }
@@ -19,10 +20,11 @@ pub fn counts(file: &[u8]) -> Counts
     let v = word(file, 24);
     let e = word(file, 36);
     let f = word(file, 48);
-    Counts { v: v, e: e, f: f }
+    Counts { v, e, f }
 }
 
 // The row of kind k + 1 says that kind, start and count.
+#[tactic(auto, unfolding(crate::specs::Format::row_right))]
 fn row_right(file: &[u8], k: usize, from: usize, n: usize) -> bool
     requires in_bounds { 64 ≤ length file.now }
     requires k_bound { k < 5 }
@@ -31,16 +33,11 @@ fn row_right(file: &[u8], k: usize, from: usize, n: usize) -> bool
     let kind = word(file, 4 * (3 * k + 1));
     let start = word(file, 4 * (3 * k + 2));
     let count = word(file, 4 * (3 * k + 3));
-    if kind != k + 1 {
-        return false;
-    }
-    if start != from {
-        return false;
-    }
-    count == n
+    kind == k + 1 && start == from && count == n
 }
 
 // The rows of a file with these counts, and its length. No sum here can wrap, as each count is a word.
+#[tactic(auto, unfolding(crate::specs::Format::rows_right))]
 fn rows_right(file: &[u8], c: Counts) -> bool
     requires in_bounds { 64 ≤ length file.now }
     requires small { Small c }
@@ -52,55 +49,34 @@ fn rows_right(file: &[u8], c: Counts) -> bool
     let marks = faces + 4 * c.f;
     let n = c.v + c.e + c.f;
     let end = marks + n;
-    if !row_right(file, 0, 64, c.v) {
-        return false;
-    }
-    if !row_right(file, 1, outs, c.v) {
-        return false;
-    }
-    if !row_right(file, 2, edges, c.e) {
-        return false;
-    }
-    if !row_right(file, 3, faces, c.f) {
-        return false;
-    }
-    if !row_right(file, 4, marks, n) {
-        return false;
-    }
-    file.len() == end
+    row_right(file, 0, 64, c.v)
+        && row_right(file, 1, outs, c.v)
+        && row_right(file, 2, edges, c.e)
+        && row_right(file, 3, faces, c.f)
+        && row_right(file, 4, marks, n)
+        && file.len() == end
 }
 
 // The n marks from there on are 0 or 1.
+#[tactic(auto, unfolding(crate::specs::Format::marks_right))]
 fn marks_right(file: &[u8], from: usize, n: usize) -> bool
     requires { from + n ≤ length file.now }
     ensures { result ≡ marks_right file.now from n }
 {
-    let mut i = 0;
-    while i < n {
-        if 1 < file[from + i] {
-            return false;
-        }
-        i += 1;
-    }
-    true
+    file[from..from + n].iter().all(|&m| m <= 1)
 }
 
 // The contents of any bytes: whether they are those of a mesh file.
+#[tactic(auto, using(crate::proofs::ContentsLaws::rows_end))]
 pub fn right(file: &[u8]) -> bool
     ensures { result ≡ right file.now }
 {
-    if file.len() < 64 {
-        return false;
-    }
-    if word(file, 0) != 1 {
+    if file.len() < 64 || word(file, 0) != 1 {
         return false;
     }
     let c = counts(file);
-    if !rows_right(file, c) {
-        return false;
-    }
     let n = c.v + c.e + c.f;
-    marks_right(file, file.len() - n, n)
+    rows_right(file, c) && marks_right(file, file.len() - n, n)
 }
 
 // The n numbers from there on are finite.
@@ -108,12 +84,5 @@ pub fn finite_numbers(file: &[u8], from: usize, n: usize) -> bool
     requires { from + 8 * n ≤ length file.now }
     ensures { result ≡ all n (λ i. finite (of_bits binary64 (bits_at file.now (from + 8 * i)))) }
 {
-    let mut i = 0;
-    while i < n {
-        if !finite_at(file, from + 8 * i) {
-            return false;
-        }
-        i += 1;
-    }
-    true
+    (0..n).all(|i| finite_at(file, from + 8 * i))
 }

@@ -4,5 +4,6 @@
 
 pub mod bytes;
 pub mod contents;
+pub mod lent;
 pub mod load;
 pub mod read;

@@ -1,174 +1,98 @@
 // The reader.
 
-ghost use Rattle.std.specs.Prelude.{◌≡◌, true, [], ◌≤◌, ◌+◌, ◌*◌, length};
-ghost use Rattle.scope.specs.Lists.{lay};
-ghost use Rattle.scope.specs.Slices.{sizes, fits};
-ghost use Rattle.check_mesh.specs.Checked.{slices_at};
-ghost use Rattle.file_read.specs.Format.{file_counts, file_slices, file_points, file_end, outs_from, edges_from, faces_from, marks_from, words, bytes, Finite, contents_refusal, link_refusal, read_refusal, reading, lent_at, laid, no_slices, read_leaves};
+ghost use Rattle.std.specs.Prelude.{◌≡◌, [], ◌≤◌, ◌*◌, length};
+ghost use Rattle.scope.specs.Slices.{sizes};
+ghost use Rattle.mesh.specs.Given.{lists};
+ghost use Rattle.file_read.specs.Format.{file_counts, file_slices, file_points, file_end, Finite, contents_refusal, read_refusal, reading, laid, no_slices, load_leaves, read_leaves};
+ghost use Rattle.file_read.specs.Held.{held, SameSlices};
 
 use crate::contents::{counts, finite_numbers, right};
-use crate::load::{load_marks, load_numbers, load_words};
+use crate::lent::Lent;
+use crate::load::load;
 use check_mesh::entry::{check_links, fits};
-use scope::answers::{Checked, Refusal};
+use mesh::given::Slices;
+use scope::answers::Refusal;
 use scope::records::Counts;
 
-// What a reader answers: the counts of the mesh that is now in the slices, or why there is none.
-#[derive(Clone, Copy)]
-pub enum Reading {
-    Read(Counts),
-    Refused(Refusal),
-}
-
-// Answers 15, 2 and 16: what is wrong before a link is looked at.
-fn look(
-    file: &[u8],
-    outs: &[u32],
-    edges: &[u32],
-    faces: &[u32],
-    vmarks: &[u8],
-    emarks: &[u8],
-    fmarks: &[u8],
-    points: &[f64],
-) -> Reading
-    ensures { result ≡ reading (contents_refusal file.now (sizes (slices_at outs.now edges.now faces.now vmarks.now emarks.now fmarks.now)) (length points.now)) (file_counts file.now) }
+// Answers 15, 2 and 16: what is wrong before a link is looked at, where there is room for so many numbers.
+#[tactic(auto, using(crate::proofs::ContentsLaws::right_long, crate::proofs::ReadLaws::look_contents, crate::proofs::ReadLaws::look_short, crate::proofs::ReadLaws::look_few, crate::proofs::ReadLaws::right_room))]
+fn look(file: &[u8], s: Slices<'_>, points: usize) -> Result<Counts, Refusal>
+    ensures { result ≡ reading (contents_refusal file.now (sizes (lists s.entry)) points) (file_counts file.now) }
 {
     if !right(file) {
-        return Reading::Refused(Refusal::BadContents);
+        return Err(Refusal::BadContents);
     }
     let c = counts(file);
-    if !fits(outs, edges, faces, vmarks, emarks, fmarks, c) {
-        return Reading::Refused(Refusal::ShortSlice);
-    }
-    if points.len() < 3 * c.v {
-        return Reading::Refused(Refusal::ShortSlice);
+    if !fits(s, c) || points < 3 * c.v {
+        return Err(Refusal::ShortSlice);
     }
     if !finite_numbers(file, 64, 3 * c.v) {
-        return Reading::Refused(Refusal::NotFinite);
+        return Err(Refusal::NotFinite);
     }
-    Reading::Read(c)
-}
-
-// The links of a file with counts c.
-fn load_links(file: &[u8], c: Counts, outs: &mut [u32], edges: &mut [u32], faces: &mut [u32])
-    requires { file_end c ≤ length file.now }
-    ensures outs_after { outs.new ≡ lay 0 (words file.now (outs_from c) c.v) outs.old }
-    ensures edges_after { edges.new ≡ lay 0 (words file.now (edges_from c) (8 * c.e)) edges.old }
-    ensures faces_after { faces.new ≡ lay 0 (words file.now (faces_from c) c.f) faces.old }
-{
-    let a = 64 + 24 * c.v;
-    let b = a + 4 * c.v;
-    let d = b + 32 * c.e;
-    load_words(file, a, c.v, outs);
-    load_words(file, b, 8 * c.e, edges);
-    load_words(file, d, c.f, faces);
-}
-
-fn load_all_marks(file: &[u8], c: Counts, vmarks: &mut [u8], emarks: &mut [u8], fmarks: &mut [u8])
-    requires { file_end c ≤ length file.now }
-    ensures vmarks_after { vmarks.new ≡ lay 0 (bytes file.now (marks_from c) c.v) vmarks.old }
-    ensures emarks_after { emarks.new ≡ lay 0 (bytes file.now (marks_from c + c.v) c.e) emarks.old }
-    ensures fmarks_after { fmarks.new ≡ lay 0 (bytes file.now (marks_from c + c.v + c.e) c.f) fmarks.old }
-{
-    let a = 64 + 24 * c.v + 4 * c.v + 32 * c.e + 4 * c.f;
-    let b = a + c.v;
-    let d = b + c.e;
-    load_marks(file, a, c.v, vmarks);
-    load_marks(file, b, c.e, emarks);
-    load_marks(file, d, c.f, fmarks);
-}
-
-// Zeros in every slice: no word, no mark and no number of the file.
-fn wipe(
-    file: &[u8],
-    outs: &mut [u32],
-    edges: &mut [u32],
-    faces: &mut [u32],
-    vmarks: &mut [u8],
-    emarks: &mut [u8],
-    fmarks: &mut [u8],
-    points: &mut [f64],
-)
-    ensures { lent_at outs.new edges.new faces.new vmarks.new emarks.new fmarks.new points.new ≡ laid no_slices [] (lent_at outs.old edges.old faces.old vmarks.old emarks.old fmarks.old points.old) }
-{
-    load_words(file, 0, 0, outs);
-    load_words(file, 0, 0, edges);
-    load_words(file, 0, 0, faces);
-    load_marks(file, 0, 0, vmarks);
-    load_marks(file, 0, 0, emarks);
-    load_marks(file, 0, 0, fmarks);
-    load_numbers(file, 0, 0, points);
+    Ok(c)
 }
 
 // The mesh of a file with counts c.
-fn fill(
-    file: &[u8],
-    c: Counts,
-    outs: &mut [u32],
-    edges: &mut [u32],
-    faces: &mut [u32],
-    vmarks: &mut [u8],
-    emarks: &mut [u8],
-    fmarks: &mut [u8],
-    points: &mut [f64],
-)
+#[tactic(auto, using(crate::proofs::ReadLaws::fill_all))]
+fn fill(file: &[u8], c: Counts, into: &mut Lent<'_>)
     requires c_value { c ≡ file_counts file.now }
     requires c_in_bounds { file_end c ≤ length file.now }
     requires finite { Finite file.now 64 (3 * c.v) }
-    ensures { lent_at outs.new edges.new faces.new vmarks.new emarks.new fmarks.new points.new ≡ laid (file_slices file.now) (file_points file.now) (lent_at outs.old edges.old faces.old vmarks.old emarks.old fmarks.old points.old) }
+    ensures same_slices { SameSlices into.old into.new }
+    ensures after { held into.new ≡ laid (file_slices file.now) (file_points file.now) (held into.old) }
 {
-    load_numbers(file, 64, 3 * c.v, points);
-    load_links(file, c, outs, edges, faces);
-    load_all_marks(file, c, vmarks, emarks, fmarks);
+    let outs = 64 + 24 * c.v;
+    let edges = outs + 4 * c.v;
+    let faces = edges + 32 * c.e;
+    let vmarks = faces + 4 * c.f;
+    let emarks = vmarks + c.v;
+    let fmarks = emarks + c.e;
+    load(file, 64, 3 * c.v, into.points);
+    load(file, outs, c.v, into.outs);
+    load(file, edges, 8 * c.e, into.edges);
+    load(file, faces, c.f, into.faces);
+    load(file, vmarks, c.v, into.vmarks);
+    load(file, emarks, c.e, into.emarks);
+    load(file, fmarks, c.f, into.fmarks);
 }
 
-// The mesh of a file whose contents are right, if it is consistent; else zeros.
-fn load(
-    file: &[u8],
-    c: Counts,
-    outs: &mut [u32],
-    edges: &mut [u32],
-    faces: &mut [u32],
-    vmarks: &mut [u8],
-    emarks: &mut [u8],
-    fmarks: &mut [u8],
-    points: &mut [f64],
-) -> Reading
-    requires c_value { c ≡ file_counts file.now }
-    requires c_in_bounds { file_end c ≤ length file.now }
-    requires finite { Finite file.now 64 (3 * c.v) }
-    requires fmarks_value { fits c (sizes (slices_at outs.old edges.old faces.old vmarks.old emarks.old fmarks.old)) ≡ true }
-    ensures value { result ≡ reading (link_refusal file.now) (file_counts file.now) }
-    ensures points_after { lent_at outs.new edges.new faces.new vmarks.new emarks.new fmarks.new points.new ≡ read_leaves (link_refusal file.now) file.now (lent_at outs.old edges.old faces.old vmarks.old emarks.old fmarks.old points.old) }
+// Zeros in every slice.
+#[tactic(auto, using(crate::proofs::ReadLaws::wipe_all))]
+fn wipe(into: &mut Lent<'_>)
+    ensures same_slices { SameSlices into.old into.new }
+    ensures after { held into.new ≡ laid no_slices [] (held into.old) }
 {
-    fill(file, c, outs, edges, faces, vmarks, emarks, fmarks, points);
-    match check_links(outs, edges, faces, vmarks, emarks, fmarks, c) {
-        Checked::Sound => Reading::Read(c),
-        Checked::Unsound(r) => {
-            wipe(file, outs, edges, faces, vmarks, emarks, fmarks, points);
-            Reading::Refused(r)
-        }
-    }
+    into.outs.fill(0);
+    into.edges.fill(0);
+    into.faces.fill(0);
+    into.vmarks.fill(0);
+    into.emarks.fill(0);
+    into.fmarks.fill(0);
+    into.points.fill(0.0);
+}
+
+// The mesh of a file whose contents are right, whether or not it is consistent.
+fn load_mesh(file: &[u8], into: &mut Lent<'_>) -> Result<Counts, Refusal>
+    ensures same_slices { SameSlices into.old into.new }
+    ensures value { result ≡ reading (read_refusal file.now (sizes (held into.old).slices) (length into.old.points.now)) (file_counts file.now) }
+    ensures after { held into.new ≡ load_leaves (contents_refusal file.now (sizes (held into.old).slices) (length into.old.points.now)) file.now (held into.old) }
+{
+    let points = into.points.len();
+    let c = look(file, into.slices(), points)?;
+    fill(file, c, into);
+    check_links(into.slices(), c)?;
+    Ok(c)
 }
 
 // A mesh from a file, for any bytes. The slices are zero past what is read, wholly zero after a refusal.
-pub fn read(
-    file: &[u8],
-    outs: &mut [u32],
-    edges: &mut [u32],
-    faces: &mut [u32],
-    vmarks: &mut [u8],
-    emarks: &mut [u8],
-    fmarks: &mut [u8],
-    points: &mut [f64],
-) -> Reading
-    ensures value { result ≡ reading (read_refusal file.now (sizes (slices_at outs.old edges.old faces.old vmarks.old emarks.old fmarks.old)) (length points.old)) (file_counts file.now) }
-    ensures points_after { lent_at outs.new edges.new faces.new vmarks.new emarks.new fmarks.new points.new ≡ read_leaves (read_refusal file.now (sizes (slices_at outs.old edges.old faces.old vmarks.old emarks.old fmarks.old)) (length points.old)) file.now (lent_at outs.old edges.old faces.old vmarks.old emarks.old fmarks.old points.old) }
+pub fn read(file: &[u8], into: &mut Lent<'_>) -> Result<Counts, Refusal>
+    ensures same_slices { SameSlices into.old into.new }
+    ensures value { result ≡ reading (read_refusal file.now (sizes (held into.old).slices) (length into.old.points.now)) (file_counts file.now) }
+    ensures after { held into.new ≡ read_leaves (read_refusal file.now (sizes (held into.old).slices) (length into.old.points.now)) file.now (held into.old) }
 {
-    match look(file, outs, edges, faces, vmarks, emarks, fmarks, points) {
-        Reading::Read(c) => load(file, c, outs, edges, faces, vmarks, emarks, fmarks, points),
-        Reading::Refused(r) => {
-            wipe(file, outs, edges, faces, vmarks, emarks, fmarks, points);
-            Reading::Refused(r)
-        }
+    let read = load_mesh(file, into);
+    if read.is_err() {
+        wipe(into);
     }
+    read
 }

@@ -5,6 +5,7 @@ use Rattle.std.specs.Float.Ieee.{to_bits}
 use Rattle.std.specs.Float.Ieee.Scale.{finite}
 use Rattle.scope.specs.declared.records.Counts.{Counts}
 use Rattle.scope.specs.Lists.{if}
+use Rattle.scope.specs.Slices.{Slices}
 use Rattle.file_read.specs.Format.{word_bytes, file_end}
 
 -- the bytes of one number, and of one mark
@@ -25,14 +26,14 @@ pub record Held (c : Counts) : Type 0 where
   pub f : c.f ≤ 1048576
 
 -- slices as long as their counts, and room for the file
-pub record Room (c : Counts) (os es fs vm em fm : List ℕ) (ps : List Float) (b : List ℕ) : Type 0 where
+pub record Room (c : Counts) (s : Slices) (ps : List Float) (b : List ℕ) : Type 0 where
   pub held : Held c
-  pub outs : c.v ≤ length os
-  pub edges : 8 * c.e ≤ length es
-  pub faces : c.f ≤ length fs
-  pub vmarks : c.v ≤ length vm
-  pub emarks : c.e ≤ length em
-  pub fmarks : c.f ≤ length fm
+  pub outs : c.v ≤ length s.outs
+  pub edges : 8 * c.e ≤ length s.edges
+  pub faces : c.f ≤ length s.faces
+  pub vmarks : c.v ≤ length s.vmarks
+  pub emarks : c.e ≤ length s.emarks
+  pub fmarks : c.f ≤ length s.fmarks
   pub points : 3 * c.v ≤ length ps
   pub finites : Finites ps (3 * c.v)
   pub file : file_end c ≤ length b

@@ -1,10 +1,10 @@
 -- What a writer answers: the number of bytes written, or why nothing is. Assumes nothing.
-use Rattle.std.specs.Prelude.{ℕ}
-use Rattle.std.proofs.Math.Option.{Option, none, some}
+use Rattle.std.specs.Prelude.{ℕ, Option, None, Some, Result, Ok, Err}
 use Rattle.scope.specs.declared.answers.Refusal.{Refusal}
-use Rattle.file_write.specs.declared.write.Writing.{Writing}
-use Rattle.file_write.specs.declared.write.Writing.TheVariants.{Written, Refused}
+
+abbrev pub Writing : Type 0
+Writing = Result ℕ Refusal
 
 abbrev pub writing : Option Refusal → ℕ → Writing
-writing none n = Written n
-writing (some r) n = Refused r
+writing None n = Ok n
+writing (Some r) n = Err r

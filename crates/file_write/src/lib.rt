@@ -2,6 +2,5 @@
 
 #![tactic(auto)]
 
-pub mod bodies;
 pub mod puts;
 pub mod write;

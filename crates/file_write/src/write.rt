@@ -1,49 +1,24 @@
 // The writer.
 
-ghost use Rattle.std.specs.Prelude.{◌≡◌, ◌≤◌, ◌+◌, ◌*◌, length, take};
-ghost use Rattle.std.specs.Float.Ieee.Scale.{finite};
+ghost use Rattle.std.specs.Prelude.{◌≡◌, ◌≤◌, ◌*◌, length, take};
 ghost use Rattle.scope.specs.Lists.{over};
-ghost use Rattle.check_mesh.specs.Checked.{slices_at};
-ghost use Rattle.file_read.specs.Format.{words_bytes, marks_bytes, all_finite, outs_from, edges_from, faces_from, marks_from, file_end, file_of, write_refusal, write_leaves};
-ghost use Rattle.text.specs.Text.{over_from};
+ghost use Rattle.mesh.specs.Given.{lists};
+ghost use Rattle.check_mesh.specs.Checked.{answered};
+ghost use Rattle.file_read.specs.Format.{all_finite, contents_of, file_end, file_of, write_refusal, write_leaves};
 ghost use Rattle.file_write.specs.Puts.{Held, Room};
 ghost use Rattle.file_write.specs.Writes.{writing};
 
-use crate::bodies::{put_contents, put_marks, put_numbers, put_words};
+use crate::puts::put_all;
 use check_mesh::entry::fits;
+use mesh::given::Given;
 use scope::answers::Refusal;
 use scope::records::Counts;
 
-// What a writer answers: how many bytes are written, or why none is.
-#[derive(Clone, Copy)]
-pub enum Writing {
-    Written(usize),
-    Refused(Refusal),
-}
-
-// The exponent's field is all ones in an infinity; a NaN, whose bits may be any, differs from itself.
-pub fn is_finite(x: f64) -> bool
-    ensures { result ≡ finite x }
+// None is infinite or a NaN.
+fn all_finite(points: &[f64]) -> bool
+    ensures { result ≡ all_finite points.now }
 {
-    if x != x {
-        return false;
-    }
-    f64::to_bits(x) % 9223372036854775808 / 4503599627370496 != 2047
-}
-
-// The first n numbers are finite.
-fn finite_numbers(points: &[f64], n: usize) -> bool
-    requires { n ≤ length points.now }
-    ensures { result ≡ all_finite (take n points.now) }
-{
-    let mut i = 0;
-    while i < n {
-        if !is_finite(points[i]) {
-            return false;
-        }
-        i += 1;
-    }
-    true
+    points.iter().all(|x| x.is_finite())
 }
 
 fn file_size(c: Counts) -> usize
@@ -53,119 +28,83 @@ fn file_size(c: Counts) -> usize
     64 + 24 * c.v + 4 * c.v + 32 * c.e + 4 * c.f + (c.v + c.e + c.f)
 }
 
-// Answers 2, 16 and 5, or the length of the file.
-fn look(
-    outs: &[u32],
-    edges: &[u32],
-    faces: &[u32],
-    vmarks: &[u8],
-    emarks: &[u8],
-    fmarks: &[u8],
-    points: &[f64],
-    c: Counts,
-    room: usize,
-) -> Writing
-    ensures { result ≡ writing (write_refusal c (slices_at outs.now edges.now faces.now vmarks.now emarks.now fmarks.now) points.now room) (file_end c) }
+// Answers 2, 16 and 5.
+#[tactic(auto, using(crate::proofs::WriteLaws::held, crate::proofs::WriteLaws::short, crate::proofs::WriteLaws::few_points, crate::proofs::WriteLaws::some_infinite, crate::proofs::WriteLaws::too_long, crate::proofs::WriteLaws::all_well))]
+fn look(m: Given<'_>, room: usize) -> Result<(), Refusal>
+    ensures { result ≡ answered (write_refusal m.entry.counts (lists m.entry.slices) m.entry.points.now room) }
 {
-    if !fits(outs, edges, faces, vmarks, emarks, fmarks, c) {
-        return Writing::Refused(Refusal::ShortSlice);
+    let n = m.counts.v;
+    if !fits(m.slices, m.counts) || m.points.len() < 3 * n {
+        return Err(Refusal::ShortSlice);
     }
-    if points.len() < 3 * c.v {
-        return Writing::Refused(Refusal::ShortSlice);
+    if !all_finite(&m.points[..3 * n]) {
+        return Err(Refusal::NotFinite);
     }
-    if !finite_numbers(points, 3 * c.v) {
-        return Writing::Refused(Refusal::NotFinite);
+    if room < file_size(m.counts) {
+        return Err(Refusal::NoRoom);
     }
-    let end = file_size(c);
-    if room < end {
-        return Writing::Refused(Refusal::NoRoom);
-    }
-    Writing::Written(end)
+    Ok(())
 }
 
-fn put_links(file: &mut [u8], outs: &[u32], edges: &[u32], faces: &[u32], c: Counts)
-    requires v_in_bounds { c.v ≤ length outs.now }
-    requires e_in_bounds { 8 * c.e ≤ length edges.now }
-    requires f_in_bounds { c.f ≤ length faces.now }
-    requires c_in_bounds { file_end c ≤ length file.old }
-    ensures { file.new ≡ over_from (faces_from c) (words_bytes (take c.f faces.now)) (over_from (edges_from c) (words_bytes (take (8 * c.e) edges.now)) (over_from (outs_from c) (words_bytes (take c.v outs.now)) file.old)) }
+// The format, then kind, start and count of each body.
+#[tactic(auto, unfolding(file_read::specs::Format::contents_of))]
+fn contents(c: Counts) -> [u32; 16]
+    requires { Held c }
+    ensures { result ≡ contents_of c }
 {
-    let a = 64 + 24 * c.v;
-    let b = a + 4 * c.v;
-    let d = b + 32 * c.e;
-    let n = 8 * c.e;
-    put_words(file, a, outs, c.v);
-    put_words(file, b, edges, n);
-    put_words(file, d, faces, c.f);
+    let outs = 64 + 24 * c.v;
+    let edges = outs + 4 * c.v;
+    let faces = edges + 32 * c.e;
+    let marks = faces + 4 * c.f;
+    let n = c.v + c.e + c.f;
+    let v = c.v as u32;
+    let e = c.e as u32;
+    let f = c.f as u32;
+    [
+        1,
+        1,
+        64,
+        v,
+        2,
+        outs as u32,
+        v,
+        3,
+        edges as u32,
+        e,
+        4,
+        faces as u32,
+        f,
+        5,
+        marks as u32,
+        n as u32,
+    ]
 }
 
-fn put_all_marks(file: &mut [u8], vmarks: &[u8], emarks: &[u8], fmarks: &[u8], c: Counts)
-    requires v_in_bounds { c.v ≤ length vmarks.now }
-    requires e_in_bounds { c.e ≤ length emarks.now }
-    requires f_in_bounds { c.f ≤ length fmarks.now }
-    requires c_in_bounds { file_end c ≤ length file.old }
-    ensures { file.new ≡ over_from (marks_from c + c.v + c.e) (marks_bytes (take c.f fmarks.now)) (over_from (marks_from c + c.v) (marks_bytes (take c.e emarks.now)) (over_from (marks_from c) (marks_bytes (take c.v vmarks.now)) file.old)) }
+// The file, where there is room for it and the numbers are finite: its length.
+fn put_file(m: Given<'_>, file: &mut [u8]) -> usize
+    requires { Room m.counts (lists m.slices) m.points.now file.old }
+    ensures file_after { file.new ≡ over (file_of m.entry.counts (lists m.entry.slices) m.entry.points.now) file.old }
+    ensures end { result ≡ file_end m.entry.counts }
 {
-    let a = 64 + 24 * c.v + 4 * c.v + 32 * c.e + 4 * c.f;
-    let b = a + c.v;
-    let d = b + c.e;
-    put_marks(file, a, vmarks, c.v);
-    put_marks(file, b, emarks, c.e);
-    put_marks(file, d, fmarks, c.f);
+    let c = m.counts;
+    let s = m.slices;
+    // Each is the place at which that part begins.
+    let points = put_all(file, 0, &contents(c));
+    let outs = put_all(file, points, &m.points[..3 * c.v]);
+    let edges = put_all(file, outs, &s.outs[..c.v]);
+    let faces = put_all(file, edges, &s.edges[..8 * c.e]);
+    let vmarks = put_all(file, faces, &s.faces[..c.f]);
+    let emarks = put_all(file, vmarks, &s.vmarks[..c.v]);
+    let fmarks = put_all(file, emarks, &s.emarks[..c.e]);
+    put_all(file, fmarks, &s.fmarks[..c.f])
 }
 
-// The file, where there is room for it and the numbers are finite.
-fn put_file(
-    outs: &[u32],
-    edges: &[u32],
-    faces: &[u32],
-    vmarks: &[u8],
-    emarks: &[u8],
-    fmarks: &[u8],
-    points: &[f64],
-    c: Counts,
-    file: &mut [u8],
-)
-    requires { Room c outs.now edges.now faces.now vmarks.now emarks.now fmarks.now points.now file.old }
-    ensures { file.new ≡ over (file_of c (slices_at outs.now edges.now faces.now vmarks.now emarks.now fmarks.now) points.now) file.old }
+// The file of a mesh, for every input: its length. A refusal writes nothing; past the file's end the slice is as it was.
+#[tactic(auto, using(crate::proofs::WriteLaws::answer_none, crate::proofs::WriteLaws::answer_some, crate::proofs::WriteLaws::room_for, crate::proofs::WriteLaws::says_written, crate::proofs::WriteLaws::says_refused, crate::proofs::WriteLaws::leaves_file, crate::proofs::WriteLaws::leaves_old))]
+pub fn write(m: Given<'_>, file: &mut [u8]) -> Result<usize, Refusal>
+    ensures value { result ≡ writing (write_refusal m.entry.counts (lists m.entry.slices) m.entry.points.now (length file.old)) (file_end m.entry.counts) }
+    ensures file_after { file.new ≡ write_leaves (write_refusal m.entry.counts (lists m.entry.slices) m.entry.points.now (length file.old)) m.entry.counts (lists m.entry.slices) m.entry.points.now file.old }
 {
-    let n = 3 * c.v;
-    put_contents(file, c);
-    put_numbers(file, 64, points, n);
-    put_links(file, outs, edges, faces, c);
-    put_all_marks(file, vmarks, emarks, fmarks, c);
-}
-
-// The file of a mesh, for every input. A refusal writes nothing; past the file's end the slice is as it was.
-pub fn write(
-    outs: &[u32],
-    edges: &[u32],
-    faces: &[u32],
-    vmarks: &[u8],
-    emarks: &[u8],
-    fmarks: &[u8],
-    points: &[f64],
-    c: Counts,
-    file: &mut [u8],
-) -> Writing
-    ensures value { result ≡ writing (write_refusal c (slices_at outs.now edges.now faces.now vmarks.now emarks.now fmarks.now) points.now (length file.old)) (file_end c) }
-    ensures file_after { file.new ≡ write_leaves (write_refusal c (slices_at outs.now edges.now faces.now vmarks.now emarks.now fmarks.now) points.now (length file.old)) c (slices_at outs.now edges.now faces.now vmarks.now emarks.now fmarks.now) points.now file.old }
-{
-    match look(
-        outs,
-        edges,
-        faces,
-        vmarks,
-        emarks,
-        fmarks,
-        points,
-        c,
-        file.len(),
-    ) {
-        Writing::Written(n) => {
-            put_file(outs, edges, faces, vmarks, emarks, fmarks, points, c, file);
-            Writing::Written(n)
-        }
-        Writing::Refused(r) => Writing::Refused(r),
-    }
+    look(m, file.len())?;
+    Ok(put_file(m, file))
 }

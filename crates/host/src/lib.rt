@@ -11,20 +11,15 @@ use std::io;
 use std::io::{Cursor, ErrorKind, Read, Write};
 use std::rt::{Env, Files};
 
-// 4,096 zeros, which hold any path.
-pub fn buffer() -> [u8; 4096]
-    ensures { 4096 ≡ length result }
+// Zeros. 4,096 hold any path.
+pub fn buffer<const N: usize>() -> [u8; N]
+    ensures { N ≡ length result }
 {
-    [0; 4096]
+    [0; N]
 }
 
-pub fn large_buffer() -> [u8; 65536]
-    ensures { 65536 ≡ length result }
-{
-    [0; 65536]
-}
-
-// Reads until `buf` is full, the input ends or a read fails. The answer is how many bytes it put at the start of `buf`.
+// Reads until `buf` is full, the input ends or a read fails. The answer is how many bytes it put at the start of `buf`, as of std's `read`,
+// which may stop earlier. A loop: std's `read_to_end` wants a heap, and `read_exact` does not say how much it put.
 pub fn read_full<R: Read>(from: &mut R, buf: &mut [u8]) -> usize
     ensures upper_bound { result ≤ length buf.new }
     ensures value { result ≡ length (take result buf.new) }
@@ -46,39 +41,31 @@ fn read_some<R: Read>(from: &mut R, buf: &mut [u8]) -> usize
     ensures upper_bound { result ≤ length buf.new }
     ensures bytes { Consumes (R.remaining from.old) (R.remaining from.new) (take result buf.new) }
 {
-    match from.read(buf) {
-        Ok(n) => n,
-        Err(_) => 0,
-    }
+    from.read(buf).unwrap_or(0)
 }
 
 // The i-th argument, at the start of `buf`: its length, 0 where there is none or it is longer than `buf`.
+// It cannot fail, and so has no `Option`: no program understands a word of no bytes.
 pub fn argument<E: Env>(env: &E, i: usize, buf: &mut [u8]) -> usize
     ensures upper_bound { result ≤ length buf.new }
     ensures value { result ≡ length (take result buf.new) }
 {
-    match env.arg(i, buf) {
-        Ok(n) => n,
-        Err(_) => 0,
-    }
+    env.arg(i, buf).unwrap_or(0)
 }
 
 // Whether there is an i-th argument. The name of the program is argument 0.
 pub fn has_argument<E: Env>(env: &E, i: usize) -> bool {
     let mut first = [0u8; 1];
-    match env.arg(i, &mut first) {
-        Ok(_) => true,
-        Err(FillError::TooLong) => true,
-        Err(FillError::NotPresent) => false,
-    }
+    !matches!(env.arg(i, &mut first), Err(FillError::NotPresent))
 }
 
 // The file of this name, for reading. A name that is not UTF-8 is an error.
 pub fn open<R: Files>(rt: &R, path: &[u8]) -> io::Result<R::File> {
-    match str::from_utf8(path) {
-        Ok(name) => File::open(rt, name),
-        Err(_) => Err(io::Error::new(ErrorKind::InvalidInput, "the name is not UTF-8")),
-    }
+    let name = str::from_utf8(path).map_err(|_| io::Error::new(
+        ErrorKind::InvalidInput,
+        "the name is not UTF-8",
+    ))?;
+    File::open(rt, name)
 }
 
 // A line that says what failed and why.
@@ -99,17 +86,16 @@ fn put_text(error: &io::Error, text: &mut [u8]) -> usize
     let room = text.len();
     let mut at = Cursor::new(text);
     let _ = write!(at, "{error}");
-    let n = at.position() as usize;
-    if n < room { n } else { room }
+    room.min(at.position() as usize)
 }
 
 // The text of an error of the system before the number that std puts after it.
 fn without_number(text: &[u8]) -> &[u8] {
-    match str::from_utf8(text) {
-        Ok(all) => match all.split_once(" (os error ") {
-            Some((front, _)) => front.as_bytes(),
-            None => text,
-        },
-        Err(_) => text,
+    let parts = str::from_utf8(text)
+        .ok()
+        .and_then(|all| all.split_once(" (os error "));
+    match parts {
+        Some((front, _)) => front.as_bytes(),
+        None => text,
     }
 }

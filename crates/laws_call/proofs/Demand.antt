@@ -3,7 +3,7 @@ use mathlib.Core.Path.{◌≡◌, refl, sym, ap, ◌∙◌}
 use mathlib.Core.Logic.{◌≢◌}
 use mathlib.Core.Bool.{Bool, true, false, false≢true}
 use mathlib.Core.List.{List, []}
-use mathlib.Core.Option.{Option, none, some}
+use Rattle.std.specs.Prelude.{Option, None, Some, Ok, Err}
 use Prim.Native.Nat.{ℕ, zero, suc, ◌+◌, ◌*◌, ◌≤◌}
 use native.Mathlib.Omega.{arith}
 use borrow.Author.Tests.{le-ltb}
@@ -15,8 +15,7 @@ use Rattle.scope.specs.declared.answers.Place.{Place}
 use Rattle.scope.specs.declared.answers.Fault.{Fault}
 use Rattle.scope.specs.declared.answers.Refusal.{Refusal}
 use Rattle.scope.specs.declared.answers.Refusal.TheVariants.{ShortSlice, NotConsistent, MarkedDeleted, NoWeight}
-use Rattle.scope.specs.declared.answers.Subdivided.{Subdivided}
-use Rattle.scope.specs.declared.answers.Subdivided.TheVariants.{Done, Refused}
+use Rattle.scope.specs.Answers.{Subdivided}
 use Rattle.scope.specs.Answers.{said_subdivided}
 use Rattle.scope.specs.Links.{Links, Marks}
 use Rattle.scope.specs.Check.{fault, marked}
@@ -49,22 +48,22 @@ alike-filled c s ps p q x y = record {
 
 -- ---- answers
 abbrev pub is-done : Subdivided → Bool
-is-done (Done c flag) = true
-is-done (Refused r) = false
+is-done (Ok (c, flag)) = true
+is-done (Err r) = false
 
 abbrev counts_answered : Counts → Subdivided → Counts
-counts_answered d (Done c flag) = c
-counts_answered d (Refused r) = d
+counts_answered d (Ok (c, flag)) = c
+counts_answered d (Err r) = d
 
 -- both are refused, with first and second the same
 refused-first : (a : ℕ) (r : Refusal) (p q : Buffers) →
-    let o : Outcome = record { answer = Refused r; left = p } in
-    Repeated a o o (record { answer = Refused r; left = q })
+    let o : Outcome = record { answer = Err r; left = p } in
+    Repeated a o o (record { answer = Err r; left = q })
 unfolding as_one
 refused-first a r p q = record { same_number = refl; same_values = λ ne. refl; same_answer = refl; same_bits = λ c flag e. absurd (false≢true (ap is-done e)) }
 
 -- a call that gets as far as room, and does not answer 5, has it
-pub has_room : (S : Scheme) (k : ℕ) (flag : Bool) (g : Given) (b : Buffers) → Open S k flag g b → number (call S k flag g b) ≢ 5 → unwanted S k (marks_in g) ≡ none →
+pub has_room : (S : Scheme) (k : ℕ) (flag : Bool) (g : Given) (b : Buffers) → Open S k flag g b → number (call S k flag g b) ≢ 5 → unwanted S k (marks_in g) ≡ None →
     Room S k flag g b
 unfolding said_subdivided
 has_room S k flag g b o n e = go (enough S k flag (links_in g) (sizes b.result) (length b.points) (length b.work)) refl
@@ -75,25 +74,25 @@ has_room S k flag g b o n e = go (enough S k flag (links_in g) (sizes b.result) 
 
 -- ---- the second call against one, where the first was done
 module _ (S : Scheme) (sides : ℕ) (w : Laws S sides) (a : ℕ) (c₀ : Counts) (f₀ : Bool) (x : Buffers) (k n : ℕ) (flag flag' : Bool) (g g' : Given) (y z : Buffers)
-    (o : Open S k flag g y) (o' : Open S n flag' g' z) (r : unwanted S k (marks_in g) ≡ none → Room S k flag g y) (r' : unwanted S n (marks_in g') ≡ none → Room S n flag' g' z) where
+    (o : Open S k flag g y) (o' : Open S n flag' g' z) (r : unwanted S k (marks_in g) ≡ None → Room S k flag g y) (r' : unwanted S n (marks_in g') ≡ None → Room S n flag' g' z) where
   abbrev Compared : Type 0
-  Compared = Repeated a (record { answer = Done c₀ f₀; left = x }) (call S k flag g y) (call S n flag' g' z)
+  Compared = Repeated a (record { answer = Ok (c₀, f₀); left = x }) (call S k flag g y) (call S n flag' g' z)
 
-  both-deleted : (p : Place) → unwanted S k (marks_in g) ≡ some p → unwanted S n (marks_in g') ≡ some p → Compared
+  both-deleted : (p : Place) → unwanted S k (marks_in g) ≡ Some p → unwanted S n (marks_in g') ≡ Some p → Compared
   unfolding as_one counted_on said_subdivided
   both-deleted p e e' =
       rw (call-deleted S k flag g y o p e, call-deleted S n flag' g' z o' p e')
       (record { same_number = refl; same_values = λ ne. refl; same_answer = refl; same_bits = λ c flag e. absurd (false≢true (ap is-done e)) })
 
-  both-heavy : (p : ℕ × ℕ) → unwanted S k (marks_in g) ≡ none → unwanted S n (marks_in g') ≡ none → overweight S k flag (links_in g) ≡ some p →
-      overweight S n flag' (links_in g') ≡ some (a + p.0, p.1) → Compared
+  both-heavy : (p : ℕ × ℕ) → unwanted S k (marks_in g) ≡ None → unwanted S n (marks_in g') ≡ None → overweight S k flag (links_in g) ≡ Some p →
+      overweight S n flag' (links_in g') ≡ Some (a + p.0, p.1) → Compared
   unfolding as_one counted_on said_subdivided
   both-heavy p e e' q q' =
       rw (call-heavy S k flag g y o e (r e) p q, call-heavy S n flag' g' z o' e' (r' e') (a + p.0, p.1) q')
       (record { same_number = refl; same_values = λ ne. absurd (ne refl); same_answer = refl; same_bits = λ c flag e. absurd (false≢true (ap is-done e)) })
 
-  both-done : unwanted S k (marks_in g) ≡ none → unwanted S n (marks_in g') ≡ none → overweight S k flag (links_in g) ≡ none →
-      overweight S n flag' (links_in g') ≡ none → subdivided S k flag g ≡ subdivided S n flag' g' →
+  both-done : unwanted S k (marks_in g) ≡ None → unwanted S n (marks_in g') ≡ None → overweight S k flag (links_in g) ≡ None →
+      overweight S n flag' (links_in g') ≡ None → subdivided S k flag g ≡ subdivided S n flag' g' →
       last_flag S k flag (links_in g) ≡ last_flag S n flag' (links_in g') → Compared
   unfolding as_one said_subdivided
   both-done e e' q q' s t =
@@ -111,15 +110,15 @@ module _ (S : Scheme) (sides : ℕ) (w : Laws S sides) (a : ℕ) (c₀ : Counts)
       })
 
   compare : (u : Option Place) → unwanted S k (marks_in g) ≡ u → unwanted S n (marks_in g') ≡ u →
-      (u ≡ none → overweight S n flag' (links_in g') ≡ moved a (overweight S k flag (links_in g))) →
-      (u ≡ none → subdivided S k flag g ≡ subdivided S n flag' g') → (u ≡ none → last_flag S k flag (links_in g) ≡ last_flag S n flag' (links_in g')) →
+      (u ≡ None → overweight S n flag' (links_in g') ≡ moved a (overweight S k flag (links_in g))) →
+      (u ≡ None → subdivided S k flag g ≡ subdivided S n flag' g') → (u ≡ None → last_flag S k flag (links_in g) ≡ last_flag S n flag' (links_in g')) →
       Compared
-  compare (some p) e e' h s t = both-deleted p e e'
-  compare none e e' h s t = go (overweight S k flag (links_in g)) refl
+  compare (Some p) e e' h s t = both-deleted p e e'
+  compare None e e' h s t = go (overweight S k flag (links_in g)) refl
     where
       go : (v : Option (ℕ × ℕ)) → overweight S k flag (links_in g) ≡ v → Compared
-      go none q = both-done e e' q (h refl ∙ ap (moved a) q) (s refl) (t refl)
-      go (some p) q = both-heavy p e e' q (h refl ∙ ap (moved a) q)
+      go None q = both-done e e' q (h refl ∙ ap (moved a) q) (s refl) (t refl)
+      go (Some p) q = both-heavy p e e' q (h refl ∙ ap (moved a) q)
 
 module _ (S : Scheme) (sides : ℕ) (w : Laws S sides) where
   few-enough : (k : ℕ) → k ≤ 12 → ltb 12 k ≡ false
@@ -133,7 +132,7 @@ module _ (S : Scheme) (sides : ℕ) (w : Laws S sides) where
       rw (call-short S a flag g x (few-enough a ha) e, call-short S n flag g z (few-enough n hn) e) (refused-first a ShortSlice x z)
 
   faulty-both : (a b n : ℕ) (flag : Bool) (g : Given) (x y z : Buffers) → a ≤ 12 → n ≤ 12 → Fitting g true → (p : Fault) →
-      fault (links_in g) (marks_in g) ≡ some p → Repeated a (call S a flag g x) (onward S b (call S a flag g x) y) (call S n flag g z)
+      fault (links_in g) (marks_in g) ≡ Some p → Repeated a (call S a flag g x) (onward S b (call S a flag g x) y) (call S n flag g z)
   unfolding onward then
   faulty-both a b n flag g x y z ha hn e p q =
       rw (call-faulty S a flag g x (few-enough a ha) e p q, call-faulty S n flag g z (few-enough n hn) e p q) (refused-first a (NotConsistent p) x z)
@@ -168,8 +167,8 @@ module _ (S : Scheme) (sides : ℕ) (w : Laws S sides) where
       (λ u. rw l))
     where
       unmoved : (v : Option (ℕ × ℕ)) → v ≡ moved 0 v
-      unmoved none = refl
-      unmoved (some p) = let q : 0 + p.0 ≡ p.0 = omega arith in rw q
+      unmoved None = refl
+      unmoved (Some p) = let q : 0 + p.0 ≡ p.0 = omega arith in rw q
 
   -- ---- one pass or more first, from a sound mesh: b more are n + 1 in all
   module _ (a b n : ℕ) (n-is : suc n ≡ suc a + b) (flag : Bool) (m : Links) (h : Good m)
@@ -230,18 +229,18 @@ module _ (S : Scheme) (sides : ℕ) (w : Laws S sides) where
         same zero = unfold last_links begin links in refl
         same (suc b) = refl
 
-    heavy-on : overweight S (suc a) flag m ≡ none → overweight S (suc n) flag m ≡ moved (suc a) (overweight S b f l)
+    heavy-on : overweight S (suc a) flag m ≡ None → overweight S (suc n) flag m ≡ moved (suc a) (overweight S b f l)
     unfolding overweight
     heavy-on q = rw (resumes S sides w f l at-end b) (unfold begin in heavy-late S (suc a) b (suc n) n-is f₀ (S.prepare m) (unfold begin in q))
 
-  no-marks : (b : ℕ) (m : Links) → unwanted S b (clean m) ≡ none
+  no-marks : (b : ℕ) (m : Links) → unwanted S b (clean m) ≡ None
   unfolding unwanted
   no-marks zero m = refl
   no-marks (suc b) m = clean-unmarked m
 
   after-passes : (a b n : ℕ) → suc n ≡ suc a + b → b ≤ 12 → (flag : Bool) (g : Given) (x y z : Buffers) →
       Open S (suc a) flag g x → Open S (suc n) flag g z → number (call S (suc a) flag g x) ≢ 5 → number (onward S b (call S (suc a) flag g x) y) ≢ 5 →
-      number (call S (suc n) flag g z) ≢ 5 → marked (marks_in g) ≡ none → overweight S (suc a) flag (links_in g) ≡ none →
+      number (call S (suc n) flag g z) ≢ 5 → marked (marks_in g) ≡ None → overweight S (suc a) flag (links_in g) ≡ None →
       Repeated (suc a) (call S (suc a) flag g x) (onward S b (call S (suc a) flag g x) y) (call S (suc n) flag g z)
   unfolding onward then subdivided last_marks unwanted
   after-passes a b n e hb flag g x y z ox oz nx ny nz clear light =
@@ -265,30 +264,30 @@ module _ (S : Scheme) (sides : ℕ) (w : Laws S sides) where
         sized = rw (el, filled-sizes, filled-points) room;
         whole = rw (el, ek) (good-faultless l (w.at_good f l (at-end a b n e flag m h inside)));
       } in
-      let first : call S (suc a) flag g x ≡ record { answer = Done (counts_of l) f; left = filled (counts_of l) (slices_of l (clean l)) ps x } =
+      let first : call S (suc a) flag g x ≡ record { answer = Ok (counts_of l, f); left = filled (counts_of l) (slices_of l (clean l)) ps x } =
       unfold subdivided last_links last_flag last_points last_marks begin in (call-done S (suc a) flag g x ox clear rx light) in
       let n' : number (call S b f g' y) ≢ 5 = rw first at ny in
       rw first
       (compare S sides w (suc a) (counts_of l) f (filled (counts_of l) (slices_of l (clean l)) ps x) b (suc n) f flag g' g y z o' oz
-      (has_room S b f g' y o' n') (has_room S (suc n) flag g z oz nz) none (ap (unwanted S b) ek ∙ no-marks b l) clear
+      (has_room S b f g' y o' n') (has_room S (suc n) flag g z oz nz) None (ap (unwanted S b) ek ∙ no-marks b l) clear
       (λ u. rw el (heavy-on a b n e flag m h inside light))
       (λ u. rw (el, ek, ep, links-on a b n e flag m h inside, marks-on a b n e flag m h inside (marks_in g), points_on a b n e flag m h inside (points_in g)))
       (λ u. rw el (flag-on a b n e flag m h inside)))
 
   heavy-both : (a b n : ℕ) → suc n ≡ suc a + b → (flag : Bool) (g : Given) (x y z : Buffers) → Open S (suc a) flag g x → Open S (suc n) flag g z →
-      number (call S (suc a) flag g x) ≢ 5 → number (call S (suc n) flag g z) ≢ 5 → marked (marks_in g) ≡ none → (p : ℕ × ℕ) → overweight S (suc a) flag (links_in g) ≡ some p →
+      number (call S (suc a) flag g x) ≢ 5 → number (call S (suc n) flag g z) ≢ 5 → marked (marks_in g) ≡ None → (p : ℕ × ℕ) → overweight S (suc a) flag (links_in g) ≡ Some p →
       Repeated (suc a) (call S (suc a) flag g x) (onward S b (call S (suc a) flag g x) y) (call S (suc n) flag g z)
   unfolding onward then unwanted
   heavy-both a b n e flag g x y z ox oz nx nz clear p q =
       let m = links_in g in
       let rx = has_room S (suc a) flag g x ox nx clear in
       let rz = has_room S (suc n) flag g z oz nz clear in
-      let early : overweight S (suc n) flag m ≡ some p =
+      let early : overweight S (suc n) flag m ≡ Some p =
       unfold overweight begin in (heavy-early S (suc a) b (suc n) e 1 (S.settle (S.prepare m) flag) (S.prepare m) p q) in
       rw (call-heavy S (suc a) flag g x ox clear rx p q, call-heavy S (suc n) flag g z oz clear rz p early) (refused-first (suc a) (NoWeight p.0 p.1) (wiped x) (wiped z))
 
   deleted-both : (a b n : ℕ) (flag : Bool) (g : Given) (x y z : Buffers) → Open S (suc a) flag g x → Open S (suc n) flag g z → (p : Place) →
-      marked (marks_in g) ≡ some p → Repeated (suc a) (call S (suc a) flag g x) (onward S b (call S (suc a) flag g x) y) (call S (suc n) flag g z)
+      marked (marks_in g) ≡ Some p → Repeated (suc a) (call S (suc a) flag g x) (onward S b (call S (suc a) flag g x) y) (call S (suc n) flag g z)
   unfolding onward then unwanted
   deleted-both a b n flag g x y z ox oz p q =
       rw (call-deleted S (suc a) flag g x ox p q, call-deleted S (suc n) flag g z oz p q) (refused-first (suc a) (MarkedDeleted p) x z)
@@ -298,10 +297,10 @@ module _ (S : Scheme) (sides : ℕ) (w : Laws S sides) where
       number (onward S b (call S a flag g x) y) ≢ 5 → number (call S n flag g z) ≢ 5 → Repeated a (call S a flag g x) (onward S b (call S a flag g x) y) (call S n flag g z)
   repeats-at a b n e hn flag g x y z nx ny nz = go (fits_with (counts_of (links_in g)) (sizes g.slices) (length g.points)) (fault (links_in g) (marks_in g)) refl refl
     where
-      opened : (k : ℕ) (b : Buffers) → k ≤ 12 → Fitting g true → fault (links_in g) (marks_in g) ≡ none → Open S k flag g b
+      opened : (k : ℕ) (b : Buffers) → k ≤ 12 → Fitting g true → fault (links_in g) (marks_in g) ≡ None → Open S k flag g b
       opened k b h s t = record { few = few-enough k h; sized = s; whole = t }
 
-      passes : (a n : ℕ) → n ≡ a + b → n ≤ 12 → Fitting g true → fault (links_in g) (marks_in g) ≡ none → number (call S a flag g x) ≢ 5 →
+      passes : (a n : ℕ) → n ≡ a + b → n ≤ 12 → Fitting g true → fault (links_in g) (marks_in g) ≡ None → number (call S a flag g x) ≢ 5 →
           number (onward S b (call S a flag g x) y) ≢ 5 → number (call S n flag g z) ≢ 5 → Repeated a (call S a flag g x) (onward S b (call S a flag g x) y) (call S n flag g z)
       passes zero n e h s t nx ny nz =
           let q : n ≡ b = omega arith in
@@ -317,15 +316,15 @@ module _ (S : Scheme) (sides : ℕ) (w : Laws S sides) where
 
           on : (u : Option Place) (v : Option (ℕ × ℕ)) → marked (marks_in g) ≡ u → overweight S (suc a) flag (links_in g) ≡ v →
               Repeated (suc a) (call S (suc a) flag g x) (onward S b (call S (suc a) flag g x) y) (call S (suc n) flag g z)
-          on (some p) v p' q = deleted-both a b n flag g x y z ox oz p p'
-          on none (some p) p' q = heavy-both a b n e flag g x y z ox oz nx nz p' p q
-          on none none p' q = after-passes a b n e (omega arith) flag g x y z ox oz nx ny nz p' q
+          on (Some p) v p' q = deleted-both a b n flag g x y z ox oz p p'
+          on None (Some p) p' q = heavy-both a b n e flag g x y z ox oz nx nz p' p q
+          on None None p' q = after-passes a b n e (omega arith) flag g x y z ox oz nx ny nz p' q
 
       go : (s : Bool) (t : Option Fault) → Fitting g s → fault (links_in g) (marks_in g) ≡ t →
           Repeated a (call S a flag g x) (onward S b (call S a flag g x) y) (call S n flag g z)
       go false t p q = short-both a b n flag g x y z (omega arith) hn p
-      go true (some f) p q = faulty-both a b n flag g x y z (omega arith) hn p f q
-      go true none p q = passes a n e hn p q nx ny nz
+      go true (Some f) p q = faulty-both a b n flag g x y z (omega arith) hn p f q
+      go true None p q = passes a n e hn p q nx ny nz
 
   pub repeats : Repeats S
   repeats a b flag g x y z h nx ny nz = repeats-at a b (a + b) refl h flag g x y z nx ny nz

@@ -1,14 +1,13 @@
 -- How a call ends, and that what it leaves when done has the lengths that its counts say. Assumes nothing.
 use mathlib.Core.Path.{◌≡◌, refl, sym, ap, ◌∙◌}
 use mathlib.Core.Bool.{Bool, true, false}
-use mathlib.Core.Option.{none, some}
+use Rattle.std.specs.Prelude.{None, Some, Ok, Err}
 use Prim.Native.Nat.{ℕ, zero, suc, ◌*◌}
 use lib.Dec.{ltb}
 use lib.ListN.{length, length-replicate}
 use Rattle.scope.specs.declared.answers.Place.{Place}
 use Rattle.scope.specs.declared.answers.Fault.{Fault}
 use Rattle.scope.specs.declared.answers.Refusal.TheVariants.{TooManyPasses, ShortSlice, NotConsistent, MarkedDeleted, NoRoom, NoWeight}
-use Rattle.scope.specs.declared.answers.Subdivided.TheVariants.{Done, Refused}
 use Rattle.scope.specs.Links.{Links}
 use Rattle.scope.specs.Check.{fault, marked}
 use Rattle.scope.specs.Tally.{Tally, tally_of, counts_of, counted}
@@ -29,16 +28,16 @@ Fitting g t = fits_with (counts_of (links_in g)) (sizes g.slices) (length g.poin
 
 -- ---- every way in which a call ends
 module _ (S : Scheme) (k : ℕ) (flag : Bool) (g : Given) (b : Buffers) where
-  pub call-many : ltb 12 k ≡ true → call S k flag g b ≡ record { answer = Refused TooManyPasses; left = b }
+  pub call-many : ltb 12 k ≡ true → call S k flag g b ≡ record { answer = Err TooManyPasses; left = b }
   unfolding call refusal ended left_after
   call-many many = rw many
 
-  pub call-short : ltb 12 k ≡ false → Fitting g false → call S k flag g b ≡ record { answer = Refused ShortSlice; left = b }
+  pub call-short : ltb 12 k ≡ false → Fitting g false → call S k flag g b ≡ record { answer = Err ShortSlice; left = b }
   unfolding call refusal ended left_after
   call-short few e = rw (few, e)
 
-  pub call-faulty : ltb 12 k ≡ false → Fitting g true → (x : Fault) → fault (links_in g) (marks_in g) ≡ some x →
-      call S k flag g b ≡ record { answer = Refused (NotConsistent x); left = b }
+  pub call-faulty : ltb 12 k ≡ false → Fitting g true → (x : Fault) → fault (links_in g) (marks_in g) ≡ Some x →
+      call S k flag g b ≡ record { answer = Err (NotConsistent x); left = b }
   unfolding call refusal ended left_after
   call-faulty few e x q = rw (few, e, q)
 
@@ -46,26 +45,26 @@ module _ (S : Scheme) (k : ℕ) (flag : Bool) (g : Given) (b : Buffers) where
   pub record Open : Type 0 where
     pub few : ltb 12 k ≡ false
     pub sized : Fitting g true
-    pub whole : fault (links_in g) (marks_in g) ≡ none
+    pub whole : fault (links_in g) (marks_in g) ≡ None
 
   module _ (o : Open) where
-    pub call-deleted : (p : Place) → unwanted S k (marks_in g) ≡ some p → call S k flag g b ≡ record { answer = Refused (MarkedDeleted p); left = b }
+    pub call-deleted : (p : Place) → unwanted S k (marks_in g) ≡ Some p → call S k flag g b ≡ record { answer = Err (MarkedDeleted p); left = b }
     unfolding call refusal ended left_after
     call-deleted p e = rw (o.few, o.sized, o.whole, e)
 
-    pub call-full : unwanted S k (marks_in g) ≡ none → enough S k flag (links_in g) (sizes b.result) (length b.points) (length b.work) ≡ false →
-        call S k flag g b ≡ record { answer = Refused NoRoom; left = wiped b }
+    pub call-full : unwanted S k (marks_in g) ≡ None → enough S k flag (links_in g) (sizes b.result) (length b.points) (length b.work) ≡ false →
+        call S k flag g b ≡ record { answer = Err NoRoom; left = wiped b }
     unfolding call refusal ended left_after
     call-full e r = rw (o.few, o.sized, o.whole, e, r)
 
-    pub call-heavy : unwanted S k (marks_in g) ≡ none → Room S k flag g b → (p : ℕ × ℕ) → overweight S k flag (links_in g) ≡ some p →
-        call S k flag g b ≡ record { answer = Refused (NoWeight p.0 p.1); left = wiped b }
+    pub call-heavy : unwanted S k (marks_in g) ≡ None → Room S k flag g b → (p : ℕ × ℕ) → overweight S k flag (links_in g) ≡ Some p →
+        call S k flag g b ≡ record { answer = Err (NoWeight p.0 p.1); left = wiped b }
     unfolding call refusal ended left_after
     call-heavy e r p q = rw (o.few, o.sized, o.whole, e, r, q)
 
-    pub call-done : unwanted S k (marks_in g) ≡ none → Room S k flag g b → overweight S k flag (links_in g) ≡ none →
+    pub call-done : unwanted S k (marks_in g) ≡ None → Room S k flag g b → overweight S k flag (links_in g) ≡ None →
         let made = subdivided S k flag g in
-        call S k flag g b ≡ record { answer = Done made.counts (last_flag S k flag (links_in g)); left = filled made.counts made.slices made.points b }
+        call S k flag g b ≡ record { answer = Ok (made.counts, last_flag S k flag (links_in g)); left = filled made.counts made.slices made.points b }
     unfolding call refusal ended
     call-done e r q = rw (o.few, o.sized, o.whole, e, r, q)
 
@@ -80,7 +79,7 @@ module _ (S : Scheme) (k : ℕ) (flag : Bool) (g : Given) (b : Buffers) (o : Ope
   given-fits : Fits g.counts (sizes g.slices) (length g.points)
   given-fits = what-fits g.counts (sizes g.slices) (length g.points) (unfold links_of counts_of in o.sized)
 
-  pub given-good : marked (marks_in g) ≡ none → Good (links_in g)
+  pub given-good : marked (marks_in g) ≡ None → Good (links_in g)
   unfolding links_of
   given-good e =
       let m = links_in g in
@@ -100,7 +99,7 @@ module _ (S : Scheme) (k : ℕ) (flag : Bool) (g : Given) (b : Buffers) (o : Ope
       }
 
 -- the check finds no fault in a good mesh without marks
-pub good-faultless : (m : Links) → Good m → fault m (clean m) ≡ none
+pub good-faultless : (m : Links) → Good m → fault m (clean m) ≡ None
 good-faultless m g =
     consistent-none m (clean m) g.sized.few_e g.sized.few_f (from-mesh m (clean m) (clean-open m) g.consistent)
 
@@ -135,7 +134,7 @@ module _ (S : Scheme) (sides : ℕ) (w : Laws S sides) where
       record { v_within = h.v_in; e_within = h.e_in; f_within = h.f_in }
 
   -- the counts that room is judged by are those of the links
-  pub final-counts : (k : ℕ) (flag : Bool) (g : Given) (b : Buffers) → Open S k flag g b → unwanted S k (marks_in g) ≡ none → Room S k flag g b →
+  pub final-counts : (k : ℕ) (flag : Bool) (g : Given) (b : Buffers) → Open S k flag g b → unwanted S k (marks_in g) ≡ None → Room S k flag g b →
       counts_of (last_links S k flag (links_in g)) ≡ final S k flag (links_in g)
   unfolding last_links final begin counts_of counted tally_of links tally unwanted
   final-counts zero flag g b o e r = refl
@@ -147,7 +146,7 @@ module _ (S : Scheme) (sides : ℕ) (w : Laws S sides) where
     pub exact : Exact (last_links S k flag (links_in g)) (last_marks S k flag (links_in g) (marks_in g)) (last_points S k flag (links_in g) (points_in g))
     pub room : fits_with (counts_of (last_links S k flag (links_in g))) (sizes b.result) (length b.points) ≡ true
 
-  ends-exact : (k : ℕ) (flag : Bool) (g : Given) (b : Buffers) → Open S k flag g b → unwanted S k (marks_in g) ≡ none → Room S k flag g b →
+  ends-exact : (k : ℕ) (flag : Bool) (g : Given) (b : Buffers) → Open S k flag g b → unwanted S k (marks_in g) ≡ None → Room S k flag g b →
       Exact (last_links S k flag (links_in g)) (last_marks S k flag (links_in g) (marks_in g)) (last_points S k flag (links_in g) (points_in g))
   unfolding last_links last_marks last_points begin links points unwanted clean
   ends-exact zero flag g b o e r = given-exact g (given-fits S 0 flag g b o)
@@ -171,7 +170,7 @@ module _ (S : Scheme) (sides : ℕ) (w : Laws S sides) where
         points-long = end.points-long (points_in g) long;
       }
 
-  pub ends : (k : ℕ) (flag : Bool) (g : Given) (b : Buffers) → Open S k flag g b → unwanted S k (marks_in g) ≡ none → Room S k flag g b → Ends k flag g b
+  pub ends : (k : ℕ) (flag : Bool) (g : Given) (b : Buffers) → Open S k flag g b → unwanted S k (marks_in g) ≡ None → Room S k flag g b → Ends k flag g b
   ends k flag g b o e r = record {
     exact = ends-exact k flag g b o e r;
     room = rw (final-counts k flag g b o e r) (room_fits S k flag g b r);

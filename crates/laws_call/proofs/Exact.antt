@@ -3,15 +3,14 @@ use mathlib.Core.Path.{◌≡◌, refl, sym, ap, ◌∙◌}
 use mathlib.Core.Logic.{◌≢◌}
 use mathlib.Core.Bool.{Bool, true, false, false≢true}
 use mathlib.Core.List.{List}
-use mathlib.Core.Option.{Option, none, some}
+use Rattle.std.specs.Prelude.{Option, None, Some, Ok, Err}
 use Prim.Native.Nat.{ℕ, ◌+◌, ◌≤◌}
 use native.Mathlib.Omega.{arith}
 use lib.Dec.{leb}
 use lib.Ieee.{Float}
 use Rattle.scope.specs.declared.records.Counts.{Counts}
 use Rattle.scope.specs.declared.answers.Refusal.{Refusal}
-use Rattle.scope.specs.declared.answers.Subdivided.{Subdivided}
-use Rattle.scope.specs.declared.answers.Subdivided.TheVariants.{Done, Refused}
+use Rattle.scope.specs.Answers.{Subdivided}
 use Rattle.scope.specs.Answers.{said_of, said_subdivided}
 use Rattle.scope.specs.Lists.{if}
 use Rattle.scope.specs.Slices.{Given, Slices, Buffers, Sizes, sizes, filled, wiped}
@@ -40,8 +39,8 @@ keeps-lengths S k flag g b = go _
     either false = unfold wiped in filled-lent _ _ _ b
 
     go : (r : Option Refusal) → Lent b (ended r (subdivided S k flag g) (last_flag S k flag (links_in g)) b).left
-    go none = unfold ended in filled-lent _ _ _ b
-    go (some r) = unfold ended left_after in either (leb (said_of r).number 4)
+    go None = unfold ended in filled-lent _ _ _ b
+    go (Some r) = unfold ended left_after in either (leb (said_of r).number 4)
 
 -- ---- equal slice by slice
 same_left : (c : Counts) (y z p q : Buffers) → Lent y z → Lent y p → Lent z q → AlikeInAll c p q → p ≡ q
@@ -66,29 +65,29 @@ same_outcome : (o o' : Outcome) → o.answer ≡ o'.answer → o.left ≡ o'.lef
 same_outcome o o' p q = λ i. record { answer = p i; left = q i }
 
 -- a call that is done had at most 12 passes, and does not answer 5
-done-few : (S : Scheme) (k : ℕ) (flag : Bool) (g : Given) (b : Buffers) (c : Counts) (next : Bool) → (call S k flag g b).answer ≡ Done c next → k ≤ 12
+done-few : (S : Scheme) (k : ℕ) (flag : Bool) (g : Given) (b : Buffers) (c : Counts) (next : Bool) → (call S k flag g b).answer ≡ Ok (c, next) → k ≤ 12
 unfolding When
-done-few S k flag g b c next e = ((exactly S k flag g b (Done c next)).0 e).0.0.0.0.0.0
+done-few S k flag g b c next e = ((exactly S k flag g b (Ok (c, next))).0 e).0.0.0.0.0.0
 
-done-number : (S : Scheme) (k : ℕ) (flag : Bool) (g : Given) (b : Buffers) (c : Counts) (next : Bool) → (call S k flag g b).answer ≡ Done c next → number (call S k flag g b) ≢ 5
+done-number : (S : Scheme) (k : ℕ) (flag : Bool) (g : Given) (b : Buffers) (c : Counts) (next : Bool) → (call S k flag g b).answer ≡ Ok (c, next) → number (call S k flag g b) ≢ 5
 unfolding said_subdivided
 done-number S k flag g b c next e q =
     let zero_is : 0 ≡ number (call S k flag g b) = rw e in
     absurd (omega arith)
 
 -- the second call against one that is done
-module _ (S : Scheme) (a b : ℕ) (first once : Outcome) (y z : Buffers) (l : Lent y z) (lz : Lent z once.left) (c : Counts) (next : Bool) (e : once.answer ≡ Done c next) where
-  done-too : (o : Outcome) (p : Subdivided) (c₁ : Counts) (f₁ : Bool) → o.answer ≡ p → Lent y o.left → as_one a (Done c₁ f₁) p ≡ Done c next →
+module _ (S : Scheme) (a b : ℕ) (first once : Outcome) (y z : Buffers) (l : Lent y z) (lz : Lent z once.left) (c : Counts) (next : Bool) (e : once.answer ≡ Ok (c, next)) where
+  done-too : (o : Outcome) (p : Subdivided) (c₁ : Counts) (f₁ : Bool) → o.answer ≡ p → Lent y o.left → as_one a (Ok (c₁, f₁)) p ≡ Ok (c, next) →
       AlikeInAll c o.left once.left → o ≡ once
   unfolding as_one
-  done-too o (Refused r) c₁ f₁ q lo d s = absurd (false≢true (ap is-done d))
-  done-too o (Done c₂ f₂) c₁ f₁ q lo d s = same_outcome o once (q ∙ d ∙ sym e) (same_left c y z o.left once.left l lo lz s)
+  done-too o (Err r) c₁ f₁ q lo d s = absurd (false≢true (ap is-done d))
+  done-too o (Ok (c₂, f₂)) c₁ f₁ q lo d s = same_outcome o once (q ∙ d ∙ sym e) (same_left c y z o.left once.left l lo lz s)
 
   whole : (p : Subdivided) → first.answer ≡ p → Repeated a first (then S p b first y) once → then S p b first y ≡ once
   unfolding then as_one
-  whole (Refused r) q h = absurd (false≢true (ap is-done (sym (ap (λ (t : Subdivided). as_one a t first.answer) q) ∙ sym h.same_answer ∙ e)))
-  whole (Done c₁ f₁) q h =
-      let o = then S (Done c₁ f₁) b first y in
+  whole (Err r) q h = absurd (false≢true (ap is-done (sym (ap (λ (t : Subdivided). as_one a t first.answer) q) ∙ sym h.same_answer ∙ e)))
+  whole (Ok (c₁, f₁)) q h =
+      let o = then S (Ok (c₁, f₁)) b first y in
       done-too o o.answer c₁ f₁ refl (keeps-lengths S b f₁ (record { counts = c₁; slices = first.left.result; points = first.left.points }) y)
       (ap (λ (t : Subdivided). as_one a t o.answer) (sym q) ∙ sym h.same_answer ∙ e)
       (h.same_bits c next e)

@@ -1,8 +1,9 @@
 -- What fits is read back as it was laid down; marks that are all zero; what is given has the lengths that its counts say. Assumes nothing.
-use mathlib.Core.Path.{◌≡◌, refl}
+use Rattle.std.proofs.lemmas.Option.{none-some}
+use mathlib.Core.Path.{◌≡◌, refl, sym}
 use mathlib.Core.Bool.{Bool, true, false, not, ◌&&◌, false≢true}
 use mathlib.Core.List.{List, []}
-use mathlib.Core.Option.{Option, none, some, some-ne-none}
+use Rattle.std.specs.Prelude.{Option, None, Some}
 use Prim.Native.Nat.{ℕ, zero, suc, ◌*◌, ◌≤◌, ◌<◌}
 use native.Mathlib.Nat.{not-suc-le-zero}
 use native.Mathlib.Decide.{ℕ_discrete}
@@ -137,34 +138,34 @@ given-exact g h = record {
 }
 
 -- ---- options and searches
-pub or-none : {A : Type 0} (a b : Option A) → (a or_else b) ≡ none → (a ≡ none) × (b ≡ none)
-or-none none b e = (refl, e)
-or-none (some x) b e = absurd (some-ne-none x e)
+pub or-none : {A : Type 0} (a b : Option A) → (a or_else b) ≡ None → (a ≡ None) × (b ≡ None)
+or-none None b e = (refl, e)
+or-none (Some x) b e = absurd (none-some x (sym e))
 
 -- a search that finds nothing has met nothing that fails
-pub all_pass : (n : ℕ) (there ok : ℕ → Bool) → first n there ok ≡ none → (i : ℕ) → i < n → there i ≡ true → ok i ≡ true
+pub all_pass : (n : ℕ) (there ok : ℕ → Bool) → first n there ok ≡ None → (i : ℕ) → i < n → there i ≡ true → ok i ≡ true
 unfolding first
 all_pass zero there ok e i h t = absurd (not-suc-le-zero h)
 all_pass (suc n) there ok e i h t = elim (ℕ_discrete i n) [ yes q ↦ here q | no q ↦ all_pass n there ok (or-none _ _ e).0 i (omega arith) t ]
   where
-    last : (a b : Bool) → a ≡ true → if (a && not b) (some n) none ≡ none → b ≡ true
+    last : (a b : Bool) → a ≡ true → if (a && not b) (Some n) None ≡ None → b ≡ true
     last true true p q = refl
-    last true false p q = absurd (some-ne-none n q)
+    last true false p q = absurd (none-some n (sym q))
     last false b p q = absurd (false≢true p)
 
     here : i ≡ n → ok i ≡ true
     here q = rw q (last (there n) (ok n) (rw q at t) (or-none (first n there ok) _ e).1)
 
 -- ---- nothing is marked
-spot-none : (p : ℕ → Place) (o : Option ℕ) → spot p o ≡ none → o ≡ none
-spot-none p none e = refl
-spot-none p (some i) e = absurd (some-ne-none (p i) e)
+spot-none : (p : ℕ → Place) (o : Option ℕ) → spot p o ≡ None → o ≡ None
+spot-none p None e = refl
+spot-none p (Some i) e = absurd (none-some (p i) (sym e))
 
-unset : (l : List ℕ) → set_mark l ≡ none → (i : ℕ) → i < length l → get_or l i 0 ≡ 0
+unset : (l : List ℕ) → set_mark l ≡ None → (i : ℕ) → i < length l → get_or l i 0 ≡ 0
 unfolding set_mark
 unset l e i h = eqb-true _ _ (all_pass (length l) (λ i. true) (λ i. eqb (get_or l i 0) 0) e i h refl)
 
-pub unmarked : (m : Links) (d : Marks) → length d.vs ≡ m.nv → length d.es ≡ m.ne → length d.fs ≡ m.nf → marked d ≡ none → Unmarked m d
+pub unmarked : (m : Links) (d : Marks) → length d.vs ≡ m.nv → length d.es ≡ m.ne → length d.fs ≡ m.nf → marked d ≡ None → Unmarked m d
 unfolding marked
 unmarked m d v e f q =
     let p1 = or-none (spot AtFace (set_mark d.fs)) _ q in
@@ -184,11 +185,11 @@ pub clean-open : (m : Links) → Unmarked m (clean m)
 unfolding clean
 clean-open m = record { no-v = λ i h. zero-at m.nv i; no-e = λ i h. zero-at m.ne i; no-f = λ i h. zero-at m.nf i }
 
-zeros-first : (n k : ℕ) → first n (λ i. true) (λ i. eqb (get_or (replicate k 0) i 0) 0) ≡ none
+zeros-first : (n k : ℕ) → first n (λ i. true) (λ i. eqb (get_or (replicate k 0) i 0) 0) ≡ None
 unfolding first
 zeros-first zero k = refl
 zeros-first (suc n) k = rw (zeros-first n k, eq-eqb (get_or (replicate k 0) n 0) 0 (zero-at k n))
 
-pub clean-unmarked : (m : Links) → marked (clean m) ≡ none
+pub clean-unmarked : (m : Links) → marked (clean m) ≡ None
 unfolding marked clean set_mark
 clean-unmarked m = rw (zeros-first _ m.nf, zeros-first _ m.ne, zeros-first _ m.nv)

@@ -2,7 +2,7 @@
 use mathlib.Core.Path.{◌≡◌, refl, sym, ap, ◌∙◌}
 use mathlib.Core.Bool.{Bool, true, not, false≢true}
 use mathlib.Core.List.{List, [], ◌∷◌}
-use mathlib.Core.Option.{Option, none, some}
+use Rattle.std.specs.Prelude.{Option, None, Some, Ok, Err}
 use Prim.Native.Nat.{ℕ, zero, suc, ◌+◌, ◌*◌, ◌≤◌, ◌<◌}
 use native.Mathlib.Omega.{arith}
 use borrow.Author.Tests.{le-leb, lt-leb}
@@ -12,8 +12,7 @@ use lib.Ieee.{Float}
 use Rattle.scope.specs.declared.records.Counts.{Counts}
 use Rattle.scope.specs.declared.answers.Refusal.{Refusal}
 use Rattle.scope.specs.declared.answers.Refusal.TheVariants.{TooManyPasses}
-use Rattle.scope.specs.declared.answers.Subdivided.{Subdivided}
-use Rattle.scope.specs.declared.answers.Subdivided.TheVariants.{Done, Refused}
+use Rattle.scope.specs.Answers.{Subdivided}
 use Rattle.scope.specs.Answers.{said_of}
 use Rattle.scope.specs.Lists.{first, number_of}
 use Rattle.scope.specs.Links.{Links, rim}
@@ -36,18 +35,18 @@ use Rattle.laws_call.proofs.Demand.{is-done}
 use Rattle.laws_call.proofs.Exactly.{opened, exactly}
 
 -- ---- a done call: what it says, and what it laid down
-module _ (S : Scheme) (k : ℕ) (flag : Bool) (g : Given) (b : Buffers) (c : Counts) (next : Bool) (e : (call S k flag g b).answer ≡ Done c next) where
+module _ (S : Scheme) (k : ℕ) (flag : Bool) (g : Given) (b : Buffers) (c : Counts) (next : Bool) (e : (call S k flag g b).answer ≡ Ok (c, next)) where
   pub clear : Past6 S k flag g b
   unfolding When
-  clear = ((exactly S k flag g b (Done c next)).0 e).0
+  clear = ((exactly S k flag g b (Ok (c, next))).0 e).0
 
   pub made-counts : c ≡ counts_of (last_links S k flag (links_in g))
   unfolding When
-  made-counts = ((exactly S k flag g b (Done c next)).0 e).1
+  made-counts = ((exactly S k flag g b (Ok (c, next))).0 e).1
 
   pub made-flag : next ≡ last_flag S k flag (links_in g)
   unfolding When
-  made-flag = ((exactly S k flag g b (Done c next)).0 e).2
+  made-flag = ((exactly S k flag g b (Ok (c, next))).0 e).2
 
   pub laid : (call S k flag g b).left ≡ filled (subdivided S k flag g).counts (subdivided S k flag g).slices (subdivided S k flag g).points b
   laid =
@@ -81,14 +80,14 @@ clears S k flag g b c next e =
 
 -- ---- refused
 abbrev refusal-of : Refusal → Subdivided → Refusal
-refusal-of d (Done c next) = d
-refusal-of d (Refused r) = r
+refusal-of d (Ok (c, next)) = d
+refusal-of d (Err r) = r
 
-ended-refused : (o : Option Refusal) (made : Given) (next : Bool) (b : Buffers) (r : Refusal) → (ended o made next b).answer ≡ Refused r →
+ended-refused : (o : Option Refusal) (made : Given) (next : Bool) (b : Buffers) (r : Refusal) → (ended o made next b).answer ≡ Err r →
     ((said_of r).number ≤ 4 → (ended o made next b).left ≡ b) × (4 < (said_of r).number → ZeroPast (record { v = 0; e = 0; f = 0 }) (ended o made next b).left)
 unfolding ended left_after wiped
-ended-refused none made next b r e = absurd (false≢true (ap is-done (sym e)))
-ended-refused (some s) made next b r e =
+ended-refused None made next b r e = absurd (false≢true (ap is-done (sym e)))
+ended-refused (Some s) made next b r e =
     let q : s ≡ r = ap (refusal-of r) e in
     (λ l. rw (q, le-leb (said_of r).number 4 l), λ l. rw (q, lt-leb (said_of r).number 4 l) (zero-filled _ _ _ b))
 
@@ -98,7 +97,7 @@ refuses S k flag g b r e = ended-refused _ _ _ b r e
 
 -- ---- what was laid down is read back
 module _ (S : Scheme) (sides : ℕ) (w : Laws S sides) (k : ℕ) (flag : Bool) (g : Given) (b : Buffers) (c : Counts) (next : Bool)
-    (e : (call S k flag g b).answer ≡ Done c next) where
+    (e : (call S k flag g b).answer ≡ Ok (c, next)) where
   end : Ends S sides w k flag g b
   end = let p = clear S k flag g b c next e in ends S sides w k flag g b (opened S k flag g b p.0.0.0) p.0.0.1 p.0.1
 
@@ -117,7 +116,7 @@ module _ (S : Scheme) (sides : ℕ) (w : Laws S sides) where
       let r = w.ready_step (tally_of m) (good-faced m h) in
       step-trans (tally_of m) (S.ready (tally_of m)) (grown S k flag m) r (tally-step S sides w k (S.settle (S.prepare m) flag) (S.ready (tally_of m)) r.faced)
 
-  module _ (k : ℕ) (flag : Bool) (g : Given) (b : Buffers) (c : Counts) (next : Bool) (e : (call S (suc k) flag g b).answer ≡ Done c next) where
+  module _ (k : ℕ) (flag : Bool) (g : Given) (b : Buffers) (c : Counts) (next : Bool) (e : (call S (suc k) flag g b).answer ≡ Ok (c, next)) where
     abbrev m : Links
     m = links_in g
 
@@ -226,9 +225,9 @@ copies S flag g b fit sound room =
         (and (fits_with g.counts (sizes b.result) (length b.points)) (leb 0 (length b.work)) room (leb-zero (length b.work)))
 
     copied : ◌≡◌ {A = Outcome} (record {
-      answer = Done (subdivided S 0 flag g).counts (last_flag S 0 flag (links_in g));
+      answer = Ok ((subdivided S 0 flag g).counts, last_flag S 0 flag (links_in g));
       left = filled (subdivided S 0 flag g).counts (subdivided S 0 flag g).slices (subdivided S 0 flag g).points b;
-    }) (record { answer = Done g.counts flag; left = filled g.counts g.slices g.points b })
+    }) (record { answer = Ok (g.counts, flag); left = filled g.counts g.slices g.points b })
     copied = unfold subdivided last_links last_flag last_marks last_points begin links points turned counts_of links_of marks_of points_of filled used in (simp take_twice)
 
 pub not-fixed : (S : Scheme) → NotFixed S
@@ -243,10 +242,10 @@ not-fixed S a fixed = false≢true (ap is-done (sym many ∙ fixed 13 true nothi
     room : Buffers
     room = record { result = no_slices; points = []; work = [] }
 
-    many : (call S 13 true nothing room).answer ≡ Refused TooManyPasses
+    many : (call S 13 true nothing room).answer ≡ Err TooManyPasses
     many = rw (call-many S 13 true nothing room refl)
 
-    copied : (call S 0 true nothing room).answer ≡ Done (record { v = 0; e = 0; f = 0 }) true
+    copied : (call S 0 true nothing room).answer ≡ Ok (record { v = 0; e = 0; f = 0 }, true)
     copied = rw (copies S true nothing room (unfold fits_with fits sizes in refl) (unfold fault links_of first used in refl) (unfold fits_with fits sizes in refl))
 
 -- ---- coordinates
@@ -256,13 +255,13 @@ blind-to-coordinates S k flag g ps b e = (rw e (answers _), rw e (results _))
   where
     answers : (r : Option Refusal) → (ended r (subdivided S k flag (with_points g ps)) (last_flag S k flag (links_in g)) b).answer ≡
         (ended r (subdivided S k flag g) (last_flag S k flag (links_in g)) b).answer
-    answers none = unfold ended subdivided in refl
-    answers (some r) = unfold ended in refl
+    answers None = unfold ended subdivided in refl
+    answers (Some r) = unfold ended in refl
 
     results : (r : Option Refusal) → (ended r (subdivided S k flag (with_points g ps)) (last_flag S k flag (links_in g)) b).left.result ≡
         (ended r (subdivided S k flag g) (last_flag S k flag (links_in g)) b).left.result
-    results none = unfold ended subdivided filled in refl
-    results (some r) = unfold ended in refl
+    results None = unfold ended subdivided filled in refl
+    results (Some r) = unfold ended in refl
 
 -- ---- what the lent slices held
 filled-same : (c : Counts) (s : Slices) (ps : List Float) (b b' : Buffers) → Lent b b' → filled c s ps b' ≡ filled c s ps b
@@ -289,8 +288,8 @@ blind-to-contents S k flag g b b' l =
     (same, λ c next e. laid S k flag g b' c next (same ∙ e) ∙ filled-same _ _ _ b b' l ∙ sym (laid S k flag g b c next e))
   where
     ended_same : (r : Option Refusal) → (ended r (subdivided S k flag g) (last_flag S k flag (links_in g)) b').answer ≡ (ended r (subdivided S k flag g) (last_flag S k flag (links_in g)) b).answer
-    ended_same none = unfold ended in refl
-    ended_same (some r) = unfold ended in refl
+    ended_same None = unfold ended in refl
+    ended_same (Some r) = unfold ended in refl
 
     answer-same : (call S k flag g b').answer ≡ (call S k flag g b).answer
     answer-same = unfold call in (rw (l.of_result, l.of_points, l.of_work) (ended_same _))

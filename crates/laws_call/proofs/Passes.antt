@@ -1,8 +1,9 @@
 -- Passes one after the other, over any scheme that keeps its laws. Assumes nothing.
-use mathlib.Core.Path.{◌≡◌, refl, ap, ◌∙◌}
+use Rattle.std.proofs.lemmas.Option.{none-some}
+use mathlib.Core.Path.{◌≡◌, refl, sym, ap, ◌∙◌}
 use mathlib.Core.Bool.{Bool}
 use mathlib.Core.List.{List}
-use mathlib.Core.Option.{Option, none, some, none-ne-some, some-ne-none}
+use Rattle.std.specs.Prelude.{Option, None, Some}
 use Prim.Native.Nat.{ℕ, zero, suc, ◌+◌, ◌*◌, ◌≤◌, ◌<◌}
 use native.Mathlib.Omega.{arith}
 use lib.ListN.{length}
@@ -41,8 +42,8 @@ good-faced m g = sum-at-least 3 m.nf _ (face-three m g)
 
 -- ---- a place in a pass, that many passes later
 abbrev pub moved : ℕ → Option (ℕ × ℕ) → Option (ℕ × ℕ)
-moved a none = none
-moved a (some p) = some (a + p.0, p.1)
+moved a None = None
+moved a (Some p) = Some (a + p.0, p.1)
 
 module _ (S : Scheme) where
   -- ---- a, then b, are n = a + b
@@ -72,21 +73,21 @@ module _ (S : Scheme) where
   turned-add (suc a) b (suc n) e flag = turned-add a b n (omega arith) (S.turn flag)
 
   -- a vertex without weight in the first a passes is met in n too
-  early-go : (o : Option ℕ) (i : ℕ) (x y : Option (ℕ × ℕ)) (p : ℕ × ℕ) → (x ≡ some p → y ≡ some p) → in_pass i o x ≡ some p → in_pass i o y ≡ some p
-  early-go none i x y p k r = k r
-  early-go (some v) i x y p k r = r
+  early-go : (o : Option ℕ) (i : ℕ) (x y : Option (ℕ × ℕ)) (p : ℕ × ℕ) → (x ≡ Some p → y ≡ Some p) → in_pass i o x ≡ Some p → in_pass i o y ≡ Some p
+  early-go None i x y p k r = k r
+  early-go (Some v) i x y p k r = r
 
-  pub heavy-early : (a b n : ℕ) → n ≡ a + b → (i : ℕ) (flag : Bool) (m : Links) (p : ℕ × ℕ) → heavy S a i flag m ≡ some p → heavy S n i flag m ≡ some p
+  pub heavy-early : (a b n : ℕ) → n ≡ a + b → (i : ℕ) (flag : Bool) (m : Links) (p : ℕ × ℕ) → heavy S a i flag m ≡ Some p → heavy S n i flag m ≡ Some p
   unfolding heavy
-  heavy-early zero b n e i flag m p q = absurd (none-ne-some p q)
+  heavy-early zero b n e i flag m p q = absurd (none-some p q)
   heavy-early (suc a) b zero e i flag m p q = absurd (omega arith)
   heavy-early (suc a) b (suc n) e i flag m p q =
       early-go (S.weightless flag m) i _ _ p (heavy-early a b n (omega arith) (suc i) (S.turn flag) (S.pass flag m) p) q
 
   -- counted from a later pass, it is named that many passes later
   moved-go : (o : Option ℕ) (a i j : ℕ) (x y : Option (ℕ × ℕ)) → j ≡ a + i → x ≡ moved a y → in_pass j o x ≡ moved a (in_pass i o y)
-  moved-go none a i j x y e h = h
-  moved-go (some v) a i j x y e h = rw e
+  moved-go None a i j x y e h = h
+  moved-go (Some v) a i j x y e h = rw e
 
   heavy-moved : (b a i j : ℕ) → j ≡ a + i → (flag : Bool) (m : Links) → heavy S b j flag m ≡ moved a (heavy S b i flag m)
   unfolding heavy
@@ -95,11 +96,11 @@ module _ (S : Scheme) where
       moved-go (S.weightless flag m) a i j _ _ e (heavy-moved b a (suc i) (suc j) (omega arith) (S.turn flag) (S.pass flag m))
 
   -- past a passes without one, it is as from there on
-  late-go : (o : Option ℕ) (i : ℕ) (x y z : Option (ℕ × ℕ)) → (x ≡ none → y ≡ z) → in_pass i o x ≡ none → in_pass i o y ≡ z
-  late-go none i x y z k r = k r
-  late-go (some v) i x y z k r = absurd (some-ne-none (i, v) r)
+  late-go : (o : Option ℕ) (i : ℕ) (x y z : Option (ℕ × ℕ)) → (x ≡ None → y ≡ z) → in_pass i o x ≡ None → in_pass i o y ≡ z
+  late-go None i x y z k r = k r
+  late-go (Some v) i x y z k r = absurd (none-some (i, v) (sym r))
 
-  heavy-from : (a b n : ℕ) → n ≡ a + b → (i j : ℕ) → j ≡ a + i → (flag : Bool) (m : Links) → heavy S a i flag m ≡ none →
+  heavy-from : (a b n : ℕ) → n ≡ a + b → (i j : ℕ) → j ≡ a + i → (flag : Bool) (m : Links) → heavy S a i flag m ≡ None →
       heavy S n i flag m ≡ heavy S b j (turned S a flag) (links S a flag m)
   unfolding heavy turned links
   heavy-from zero b n e i j d flag m q =
@@ -110,7 +111,7 @@ module _ (S : Scheme) where
   heavy-from (suc a) b (suc n) e i j d flag m q =
       late-go (S.weightless flag m) i _ _ _ (heavy-from a b n (omega arith) (suc i) j (omega arith) (S.turn flag) (S.pass flag m)) q
 
-  pub heavy-late : (a b n : ℕ) → n ≡ a + b → (flag : Bool) (m : Links) → heavy S a 1 flag m ≡ none →
+  pub heavy-late : (a b n : ℕ) → n ≡ a + b → (flag : Bool) (m : Links) → heavy S a 1 flag m ≡ None →
       heavy S n 1 flag m ≡ moved a (heavy S b 1 (turned S a flag) (links S a flag m))
   heavy-late a b n e flag m q =
       heavy-from a b n e 1 (a + 1) refl flag m q ∙ heavy-moved b a 1 (a + 1) refl (turned S a flag) (links S a flag m)

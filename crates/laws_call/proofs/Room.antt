@@ -2,7 +2,7 @@
 use mathlib.Core.Path.{◌≡◌, refl}
 use mathlib.Core.Logic.{◌≢◌}
 use mathlib.Core.Bool.{Bool, true, false, not}
-use mathlib.Core.Option.{Option, none, some}
+use Rattle.std.specs.Prelude.{Option, None, Some, Ok, Err}
 use Prim.Native.Nat.{ℕ, zero, suc, ◌+◌}
 use native.Mathlib.Omega.{arith}
 use lib.Dec.{ltb}
@@ -12,8 +12,7 @@ use Rattle.scope.specs.declared.answers.Place.{Place}
 use Rattle.scope.specs.declared.answers.Fault.{Fault}
 use Rattle.scope.specs.declared.answers.Refusal.{Refusal}
 use Rattle.scope.specs.declared.answers.Refusal.TheVariants.{TooManyPasses, ShortSlice, NotConsistent, MarkedDeleted, NoRoom, NoWeight}
-use Rattle.scope.specs.declared.answers.Subdivided.{Subdivided}
-use Rattle.scope.specs.declared.answers.Subdivided.TheVariants.{Done, Refused}
+use Rattle.scope.specs.Answers.{Subdivided}
 use Rattle.scope.specs.Answers.{said_of, said_subdivided, refuse_if, refuse}
 use Rattle.scope.specs.Lists.{◌or_else◌}
 use Rattle.scope.specs.Check.{fault}
@@ -27,8 +26,8 @@ use Rattle.laws_call.proofs.Made.{made-flag, read-links, before, inside}
 
 -- ---- a call with room does not answer 5
 abbrev Not-5 : Option Refusal → Type 0
-Not-5 none = Unit {0}
-Not-5 (some r) = (said_of r).number ≢ 5
+Not-5 None = Unit {0}
+Not-5 (Some r) = (said_of r).number ≢ 5
 
 none-of-them : (many short : Bool) (x : Option Fault) (p : Option Place) (v : Option (ℕ × ℕ)) →
     Not-5 (
@@ -37,15 +36,15 @@ none-of-them : (many short : Bool) (x : Option Fault) (p : Option Place) (v : Op
     )
 none-of-them true short x p v = λ e. omega arith
 none-of-them false true x p v = λ e. omega arith
-none-of-them false false (some x) p v = λ e. omega arith
-none-of-them false false none (some p) v = λ e. omega arith
-none-of-them false false none none (some v) = λ e. omega arith
-none-of-them false false none none none = tt
+none-of-them false false (Some x) p v = λ e. omega arith
+none-of-them false false None (Some p) v = λ e. omega arith
+none-of-them false false None None (Some v) = λ e. omega arith
+none-of-them false false None None None = tt
 
 ended-not : (r : Option Refusal) (made : Given) (next : Bool) (b : Buffers) → Not-5 r → number (ended r made next b) ≢ 5
 unfolding ended said_subdivided
-ended-not none made next b p = λ e. omega arith
-ended-not (some r) made next b p = p
+ended-not None made next b p = λ e. omega arith
+ended-not (Some r) made next b p = p
 
 has-enough : (S : Scheme) (k : ℕ) (flag : Bool) (g : Given) (b : Buffers) → Room S k flag g b → number (call S k flag g b) ≢ 5
 unfolding call refusal
@@ -57,7 +56,7 @@ has-enough S k flag g b room =
 
 -- ---- and so the second call does not
 module _ (S : Scheme) (sides : ℕ) (w : Laws S sides) where
-  second-room : (a b n : ℕ) → n ≡ a + b → (flag : Bool) (g : Given) (x y : Buffers) (c : Counts) (next : Bool) → (call S a flag g x).answer ≡ Done c next → Room S n flag g y →
+  second-room : (a b n : ℕ) → n ≡ a + b → (flag : Bool) (g : Given) (x y : Buffers) (c : Counts) (next : Bool) → (call S a flag g x).answer ≡ Ok (c, next) → Room S n flag g y →
       let left = (call S a flag g x).left in
       Room S b next (record { counts = c; slices = left.result; points = left.points }) y
   unfolding last_links last_flag begin
@@ -73,8 +72,8 @@ module _ (S : Scheme) (sides : ℕ) (w : Laws S sides) where
   second-not : (a b : ℕ) (flag : Bool) (g : Given) (x y : Buffers) → Room S a flag g x → Room S (a + b) flag g y → (p : Subdivided) → (call S a flag g x).answer ≡ p →
       number (then S p b (call S a flag g x) y) ≢ 5
   unfolding then
-  second-not a b flag g x y rx ry (Refused r) q = has-enough S a flag g x rx
-  second-not a b flag g x y rx ry (Done c next) q = has-enough S b next _ y (second-room a b (a + b) refl flag g x y c next q ry)
+  second-not a b flag g x y rx ry (Err r) q = has-enough S a flag g x rx
+  second-not a b flag g x y rx ry (Ok (c, next)) q = has-enough S b next _ y (second-room a b (a + b) refl flag g x y c next q ry)
 
   pub room-is-enough : RoomIsEnough S
   unfolding onward

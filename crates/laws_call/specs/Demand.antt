@@ -1,10 +1,9 @@
 -- Demand 3: a passes and then b are a + b at once. Assumes nothing.
-use Rattle.std.specs.Prelude.{ℕ, ◌+◌, ◌-◌, ◌*◌, ◌≤◌, ◌≡◌, ◌≢◌, Bool, true, List, eqb, length, get_or, take, drop, replicate, Float}
+use Rattle.std.specs.Prelude.{ℕ, ◌+◌, ◌-◌, ◌*◌, ◌≤◌, ◌≡◌, ◌≢◌, Bool, true, List, eqb, length, get_or, take, drop, replicate, Float, Ok, Err}
 use Rattle.scope.specs.declared.records.Counts.{Counts}
 use Rattle.scope.specs.declared.answers.Refusal.{Refusal}
 use Rattle.scope.specs.declared.answers.Refusal.TheVariants.{NoWeight}
-use Rattle.scope.specs.declared.answers.Subdivided.{Subdivided}
-use Rattle.scope.specs.declared.answers.Subdivided.TheVariants.{Done, Refused}
+use Rattle.scope.specs.Answers.{Subdivided}
 use Rattle.scope.specs.Answers.{said_of, said_subdivided}
 use Rattle.scope.specs.Lists.{if}
 use Rattle.scope.specs.Links.{Links, Marks}
@@ -39,9 +38,9 @@ counted_on a r =
 
 -- the answer to a + b passes at once, by the answers to a and then to b
 unfoldable pub as_one : ℕ → Subdivided → Subdivided → Subdivided
-as_one a (Refused r) second = Refused r
-as_one a (Done c flag) (Refused r) = Refused (counted_on a r)
-as_one a (Done c flag) (Done c' flag') = Done c' flag'
+as_one a (Err r) second = Err r
+as_one a (Ok (c, flag)) (Err r) = Err (counted_on a r)
+as_one a (Ok (c, flag)) (Ok (c', flag')) = Ok (c', flag')
 
 -- nothing but z from place n on
 abbrev pub Only : {A : Type 0} → A → ℕ → List A → Type 0
@@ -78,7 +77,7 @@ pub record Repeated (a : ℕ) (first second once : Outcome) : Type 0 where
   -- exactly the answer that these two come to: a refusal with its place, or the counts and the flag
   pub same_answer : once.answer ≡ as_one a first.answer second.answer
   -- and, when done, the same bits
-  pub same_bits : (c : Counts) (flag : Bool) → once.answer ≡ Done c flag → AlikeInAll c second.left once.left
+  pub same_bits : (c : Counts) (flag : Bool) → once.answer ≡ Ok (c, flag) → AlikeInAll c second.left once.left
 
 -- Demand 3. Whatever is given, and whatever was in the lent slices x, y and z: a passes into x and, unless refused, b more into y, on what
 -- was left in x, with its counts and its flag, come to what a + b passes into z come to, unless one of the three calls answers 5.
@@ -100,4 +99,4 @@ abbrev pub RepeatsExactly : Scheme → Type 0
 RepeatsExactly S =
     (a b : ℕ) (flag : Bool) (g : Given) (x y z : Buffers) → Lent y z →
     number (call S a flag g x) ≢ 5 → number (onward S b (call S a flag g x) y) ≢ 5 →
-    (c : Counts) (next : Bool) → (call S (a + b) flag g z).answer ≡ Done c next → onward S b (call S a flag g x) y ≡ call S (a + b) flag g z
+    (c : Counts) (next : Bool) → (call S (a + b) flag g z).answer ≡ Ok (c, next) → onward S b (call S a flag g x) y ≡ call S (a + b) flag g z

@@ -1,9 +1,7 @@
 -- Document 01, section 4: each answer of a subdivision call and exactly when it is given, for every input. Assumes nothing.
-use Rattle.std.specs.Prelude.{ℕ, ◌≤◌, ◌<◌, ◌≡◌, Bool, true, false, length}
-use Rattle.std.proofs.Math.Option.{none, some}
+use Rattle.std.specs.Prelude.{ℕ, ◌≤◌, ◌<◌, ◌≡◌, Bool, true, false, length, None, Some, Ok, Err}
 use Rattle.scope.specs.declared.answers.Refusal.TheVariants.{TooManyPasses, ShortSlice, NotConsistent, MarkedDeleted, NoRoom, NoWeight, BadHandle, CannotInsertEdge, HalfedgesNotInTheSameLoop, NotDeletedFace, ComplexVertex, CannotSwapBoundaryEdge, WouldBreak, BadContents, NotFinite}
-use Rattle.scope.specs.declared.answers.Subdivided.{Subdivided}
-use Rattle.scope.specs.declared.answers.Subdivided.TheVariants.{Done, Refused}
+use Rattle.scope.specs.Answers.{Subdivided}
 use Rattle.scope.specs.Check.{fault}
 use Rattle.scope.specs.Tally.{counts_of}
 use Rattle.scope.specs.Slices.{Given, Buffers, sizes, fits_with}
@@ -27,32 +25,32 @@ module _ (S : Scheme) (k : ℕ) (flag : Bool) (g : Given) (b : Buffers) where
   Past2 = Past1 × (fitting ≡ true)
 
   abbrev pub Past3 : Type 0
-  Past3 = Past2 × (fault (links_in g) (marks_in g) ≡ none)
+  Past3 = Past2 × (fault (links_in g) (marks_in g) ≡ None)
 
   abbrev pub Past4 : Type 0
-  Past4 = Past3 × (unwanted S k (marks_in g) ≡ none)
+  Past4 = Past3 × (unwanted S k (marks_in g) ≡ None)
 
   abbrev pub Past5 : Type 0
   Past5 = Past4 × (roomy ≡ true)
 
   abbrev pub Past6 : Type 0
-  Past6 = Past5 × (overweight S k flag (links_in g) ≡ none)
+  Past6 = Past5 × (overweight S k flag (links_in g) ≡ None)
 
   -- the answers of edits and of the reader are never given
   unfoldable pub When : Subdivided → Type 0
-  When (Refused TooManyPasses) = 12 < k
-  When (Refused ShortSlice) = Past1 × (fitting ≡ false)
-  When (Refused (NotConsistent x)) = Past2 × (fault (links_in g) (marks_in g) ≡ some x)
-  When (Refused (MarkedDeleted p)) = Past3 × (unwanted S k (marks_in g) ≡ some p)
-  When (Refused NoRoom) = Past4 × (roomy ≡ false)
-  When (Refused (NoWeight pass v)) = Past5 × (overweight S k flag (links_in g) ≡ some (pass, v))
-  When (Refused BadHandle) = ⊥
-  When (Refused CannotInsertEdge) = ⊥
-  When (Refused HalfedgesNotInTheSameLoop) = ⊥
-  When (Refused NotDeletedFace) = ⊥
-  When (Refused ComplexVertex) = ⊥
-  When (Refused CannotSwapBoundaryEdge) = ⊥
-  When (Refused WouldBreak) = ⊥
-  When (Refused BadContents) = ⊥
-  When (Refused NotFinite) = ⊥
-  When (Done c next) = Past6 × (c ≡ counts_of (last_links S k flag (links_in g))) × (next ≡ last_flag S k flag (links_in g))
+  When (Err TooManyPasses) = 12 < k
+  When (Err ShortSlice) = Past1 × (fitting ≡ false)
+  When (Err (NotConsistent x)) = Past2 × (fault (links_in g) (marks_in g) ≡ Some x)
+  When (Err (MarkedDeleted p)) = Past3 × (unwanted S k (marks_in g) ≡ Some p)
+  When (Err NoRoom) = Past4 × (roomy ≡ false)
+  When (Err (NoWeight pass v)) = Past5 × (overweight S k flag (links_in g) ≡ Some (pass, v))
+  When (Err BadHandle) = ⊥
+  When (Err CannotInsertEdge) = ⊥
+  When (Err HalfedgesNotInTheSameLoop) = ⊥
+  When (Err NotDeletedFace) = ⊥
+  When (Err ComplexVertex) = ⊥
+  When (Err CannotSwapBoundaryEdge) = ⊥
+  When (Err WouldBreak) = ⊥
+  When (Err BadContents) = ⊥
+  When (Err NotFinite) = ⊥
+  When (Ok (c, next)) = Past6 × (c ≡ counts_of (last_links S k flag (links_in g))) × (next ≡ last_flag S k flag (links_in g))

@@ -1,10 +1,8 @@
 -- What is so whenever a subdivision call is done (document 01, sections 3, 4 and 7). Assumes nothing.
-use Rattle.std.specs.Prelude.{ℕ, suc, ◌+◌, ◌*◌, ◌≤◌, ◌<◌, ◌≡◌, Bool, true, not, List, length, Float}
-use Rattle.std.proofs.Math.Option.{none}
+use Rattle.std.specs.Prelude.{ℕ, suc, ◌+◌, ◌*◌, ◌≤◌, ◌<◌, ◌≡◌, Bool, true, not, List, length, Float, None, Ok, Err}
 use Rattle.scope.specs.declared.records.Counts.{Counts}
 use Rattle.scope.specs.declared.answers.Refusal.{Refusal}
-use Rattle.scope.specs.declared.answers.Subdivided.{Subdivided}
-use Rattle.scope.specs.declared.answers.Subdivided.TheVariants.{Done, Refused}
+use Rattle.scope.specs.Answers.{Subdivided}
 use Rattle.scope.specs.Answers.{said_of}
 use Rattle.scope.specs.Lists.{number_of}
 use Rattle.scope.specs.Links.{Links, rim}
@@ -35,7 +33,7 @@ grown S k flag m = tally S k (S.settle (S.prepare m) flag) (S.ready (tally_of m)
 pub record Made (S : Scheme) (sides k : ℕ) (flag : Bool) (g : Given) (c : Counts) (next : Bool) (left : Buffers) : Type 0 where
   -- its lists are as long as its counts say and it is consistent; the check finds no fault; nothing is deleted
   pub good : Good (links_of c left.result)
-  pub faultless : fault (links_of c left.result) (marks_of c left.result) ≡ none
+  pub faultless : fault (links_of c left.result) (marks_of c left.result) ≡ None
   pub undeleted : marks_of c left.result ≡ clean (links_of c left.result)
   -- the counts are those of the table, and so are the sum of face lengths and the number of rim edges, counted in the records present
   pub counts : c ≡ counted (grown S k flag (links_in g))
@@ -52,13 +50,13 @@ pub record Made (S : Scheme) (sides k : ℕ) (flag : Bool) (g : Given) (c : Coun
 -- one pass or more
 abbrev pub Makes : Scheme → ℕ → Type 0
 Makes S sides =
-    (k : ℕ) (flag : Bool) (g : Given) (b : Buffers) (c : Counts) (next : Bool) → (call S (suc k) flag g b).answer ≡ Done c next →
+    (k : ℕ) (flag : Bool) (g : Given) (b : Buffers) (c : Counts) (next : Bool) → (call S (suc k) flag g b).answer ≡ Ok (c, next) →
     Made S sides (suc k) flag g c next (call S (suc k) flag g b).left
 
 -- any number of passes
 abbrev pub Clears : Scheme → Type 0
 Clears S =
-    (k : ℕ) (flag : Bool) (g : Given) (b : Buffers) (c : Counts) (next : Bool) → (call S k flag g b).answer ≡ Done c next →
+    (k : ℕ) (flag : Bool) (g : Given) (b : Buffers) (c : Counts) (next : Bool) → (call S k flag g b).answer ≡ Ok (c, next) →
     ZeroPast c (call S k flag g b).left
 
 -- no call changes a length
@@ -68,7 +66,7 @@ KeepsLengths S = (k : ℕ) (flag : Bool) (g : Given) (b : Buffers) → Lent b (c
 -- section 4: after refusals 1 to 4 all is as handed in, after 5 and 6 result and work are all zero
 abbrev pub Refuses : Scheme → Type 0
 Refuses S =
-    (k : ℕ) (flag : Bool) (g : Given) (b : Buffers) (r : Refusal) → (call S k flag g b).answer ≡ Refused r →
+    (k : ℕ) (flag : Bool) (g : Given) (b : Buffers) (r : Refusal) → (call S k flag g b).answer ≡ Err r →
     ((said_of r).number ≤ 4 → (call S k flag g b).left ≡ b)
     × (4 < (said_of r).number → ZeroPast (record { v = 0; e = 0; f = 0 }) (call S k flag g b).left)
 
@@ -77,22 +75,22 @@ abbrev pub Copies : Scheme → Type 0
 Copies S =
     (flag : Bool) (g : Given) (b : Buffers) →
     fits_with g.counts (sizes g.slices) (length g.points) ≡ true →
-    fault (links_in g) (marks_in g) ≡ none →
+    fault (links_in g) (marks_in g) ≡ None →
     fits_with g.counts (sizes b.result) (length b.points) ≡ true →
-    call S 0 flag g b ≡ record { answer = Done g.counts flag; left = filled g.counts g.slices g.points b }
+    call S 0 flag g b ≡ record { answer = Ok (g.counts, flag); left = filled g.counts g.slices g.points b }
 
 -- ---- section 7: what is shut out
 -- copying: wherever there is a face, one pass or more add one
 abbrev pub AddsFaces : Scheme → Type 0
 AddsFaces S =
-    (k : ℕ) (flag : Bool) (g : Given) (b : Buffers) (c : Counts) (next : Bool) → (call S (suc k) flag g b).answer ≡ Done c next →
+    (k : ℕ) (flag : Bool) (g : Given) (b : Buffers) (c : Counts) (next : Bool) → (call S (suc k) flag g b).answer ≡ Ok (c, next) →
     0 < g.counts.f → g.counts.f < c.f
 
 -- idling after some pass: wherever there is a face, a pass more adds one
 abbrev pub GoesOnAdding : Scheme → Type 0
 GoesOnAdding S =
     (k : ℕ) (flag : Bool) (g : Given) (b b' : Buffers) (c c' : Counts) (next next' : Bool) →
-    (call S (suc k) flag g b).answer ≡ Done c next → (call S (suc (suc k)) flag g b').answer ≡ Done c' next' →
+    (call S (suc k) flag g b).answer ≡ Ok (c, next) → (call S (suc (suc k)) flag g b').answer ≡ Ok (c', next') →
     0 < g.counts.f → c.f < c'.f
 
 -- one fixed answer
@@ -113,4 +111,4 @@ abbrev pub BlindToContents : Scheme → Type 0
 BlindToContents S =
     (k : ℕ) (flag : Bool) (g : Given) (b b' : Buffers) → Lent b b' →
     ((call S k flag g b').answer ≡ (call S k flag g b).answer)
-    × ((c : Counts) (next : Bool) → (call S k flag g b).answer ≡ Done c next → (call S k flag g b').left ≡ (call S k flag g b).left)
+    × ((c : Counts) (next : Bool) → (call S k flag g b).answer ≡ Ok (c, next) → (call S k flag g b').left ≡ (call S k flag g b).left)

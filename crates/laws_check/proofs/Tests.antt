@@ -2,7 +2,7 @@
 use mathlib.Core.Path.{◌≡◌, refl, sym, ap, ◌∙◌, subst⁻¹}
 use mathlib.Core.Logic.{◌⊎◌, inl, inr, ◌≢◌, ⊎_elim}
 use mathlib.Core.Bool.{Bool, true, false, not, ◌&&◌, ◌||◌}
-use mathlib.Core.Option.{Option, none, some}
+use Rattle.std.specs.Prelude.{Option, None, Some}
 use mathlib.Core.List.{List, []}
 use Prim.Native.Nat.{ℕ, zero, suc, ◌*◌, ◌/◌, ◌<◌}
 use native.Mathlib.Omega.{arith}
@@ -156,20 +156,20 @@ module _ (m : Links) (k : Marks) where
 
 -- what a search below n finds
 pub data Sought (Ok : ℕ → Type 0) (n : ℕ) : Option ℕ → Type 0 where
-  nowhere : ((i : ℕ) → i < n → Ok i) → Sought Ok n none
-  there-at : (i : ℕ) → i < n → ((j : ℕ) → j < i → Ok j) → (Ok i → ⊥) → Sought Ok n (some i)
+  nowhere : ((i : ℕ) → i < n → Ok i) → Sought Ok n None
+  there-at : (i : ℕ) → i < n → ((j : ℕ) → j < i → Ok j) → (Ok i → ⊥) → Sought Ok n (Some i)
 
 pub first-sought : (n : ℕ) {there ok : ℕ → Bool} {P Q : ℕ → Type 0} → ((i : ℕ) → Tells (there i) (P i)) → ((i : ℕ) → P i → Tells (ok i) (Q i)) → Sought (λ i. P i → Q i) n (first n there ok)
 unfolding first
 first-sought zero t u = nowhere (λ i l. absurd (omega arith))
 first-sought (suc n) {there} {ok} {P} {Q} t u = go (first-sought n t u)
   where
-    last : ((i : ℕ) → i < n → P i → Q i) → (b : Bool) → Tells b (P n) → (c : Bool) → (P n → Tells c (Q n)) → Sought (λ i. P i → Q i) (suc n) (if (b && not c) (some n) none)
+    last : ((i : ℕ) → i < n → P i → Q i) → (b : Bool) → Tells b (P n) → (c : Bool) → (P n → Tells c (Q n)) → Sought (λ i. P i → Q i) (suc n) (if (b && not c) (Some n) None)
     last a true x true y = nowhere (λ i l. split i n (λ e. subst⁻¹ (λ (j : ℕ). P j → Q j) e (λ p. (y p).so refl)) (λ ne. a i (omega arith)))
     last a true x false y = there-at n (omega arith) a (λ f. (y (x.so refl)).not_so refl (f (x.so refl)))
     last a false x c y = nowhere (λ i l. split i n (λ e. subst⁻¹ (λ (j : ℕ). P j → Q j) e (λ p. absurd (x.not_so refl p))) (λ ne. a i (omega arith)))
 
-    go : {o : Option ℕ} → Sought (λ i. P i → Q i) n o → Sought (λ i. P i → Q i) (suc n) (o or_else if (there n && not (ok n)) (some n) none)
+    go : {o : Option ℕ} → Sought (λ i. P i → Q i) n o → Sought (λ i. P i → Q i) (suc n) (o or_else if (there n && not (ok n)) (Some n) None)
     go (nowhere a) = last a (there n) (t n) (ok n) (u n)
     go (there-at i l a x) = there-at i (omega arith) a x
 
@@ -181,7 +181,7 @@ module _ {rule : ℕ} {place : ℕ → Place} {size : ℕ} {Rest : Option Fault 
       go (nowhere a) = passed a (r a)
       go (there-at i l a x) = broken_at i l a x refl
 
-  pub last-is : Rest none → Stage rule place size (λ i. P i → Q i) Rest (broken rule place (first size there ok))
+  pub last-is : Rest None → Stage rule place size (λ i. P i → Q i) Rest (broken rule place (first size there ok))
   last-is r = go (first-sought size t u)
     where
       go : {o : Option ℕ} → Sought (λ i. P i → Q i) size o → Stage rule place size (λ i. P i → Q i) Rest (broken rule place o)
@@ -215,7 +215,7 @@ one_place {Ok} {i} {j} a x b y = go (dec_lt i j) (dec_lt j i)
 
 pub stage-one : {rule : ℕ} {place : ℕ → Place} {size : ℕ} {Ok : ℕ → Type 0} {Rest : Option Fault → Type 0} → ((a b : Option Fault) → Rest a → Rest b → a ≡ b)
     → (a b : Option Fault) → Stage rule place size Ok Rest a → Stage rule place size Ok Rest b → a ≡ b
-stage-one {rule} {place} one a b (broken_at i l f x e) (broken_at j h g y d) = e ∙ ap (λ (q : ℕ). some (record { rule = rule; place = place q })) (one_place f x g y) ∙ sym d
+stage-one {rule} {place} one a b (broken_at i l f x e) (broken_at j h g y d) = e ∙ ap (λ (q : ℕ). Some (record { rule = rule; place = place q })) (one_place f x g y) ∙ sym d
 stage-one one a b (broken_at i l f x e) (passed g y) = absurd (x (g i l))
 stage-one one a b (passed f x) (broken_at j h g y d) = absurd (y (f j h))
 stage-one one a b (passed f x) (passed g y) = one a b x y

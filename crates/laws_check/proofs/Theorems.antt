@@ -1,7 +1,8 @@
 -- What scope's `fault` answers: none exactly if the mesh is consistent, else the lowest broken rule at its first place. Assumes nothing.
+use Rattle.std.proofs.lemmas.Option.{none-some, same_Some}
 use mathlib.Core.Path.{◌≡◌, refl, sym, ap, ◌∙◌, subst}
 use mathlib.Core.List.{[], ◌∷◌}
-use mathlib.Core.Option.{Option, none, some, none-ne-some, some-injective}
+use Rattle.std.specs.Prelude.{Option, None, Some}
 use Prim.Native.Nat.{ℕ, suc, ◌≤◌, ◌<◌}
 use native.Mathlib.Nat.{not-suc-le-zero}
 use native.Mathlib.Omega.{arith}
@@ -21,11 +22,11 @@ use Rattle.laws_check.specs.Names.{Rule, rule-1-vertex, rule-1-halfedge, rule-1-
 use Rattle.laws_check.proofs.Tests.{fault-judged, judged-fault}
 
 -- ---- none
-passes : {rule : ℕ} {place : ℕ → Place} {size : ℕ} {Ok : ℕ → Type 0} {Rest : Option Fault → Type 0} → Stage rule place size Ok Rest none → ((i : ℕ) → i < size → Ok i) × Rest none
-passes (broken_at i l f x e) = absurd (none-ne-some _ e)
+passes : {rule : ℕ} {place : ℕ → Place} {size : ℕ} {Ok : ℕ → Type 0} {Rest : Option Fault → Type 0} → Stage rule place size Ok Rest None → ((i : ℕ) → i < size → Ok i) × Rest None
+passes (broken_at i l f x e) = absurd (none-some _ e)
 passes (passed f r) = (f, r)
 
-pub judged-none : (m : Links) (k : Marks) → Judged m k none → Rules (mesh_of m k)
+pub judged-none : (m : Links) (k : Marks) → Judged m k None → Rules (mesh_of m k)
 judged-none m k j1v =
     let (o1v, j1h) = passes j1v in
     let (o1h, j1f) = passes j1h in
@@ -52,16 +53,16 @@ judged-none m k j1v =
       c9 = λ v i. o9 v i.0 i;
     }
 
-pub rules-judged : (m : Links) (k : Marks) → Rules (mesh_of m k) → Judged m k none
+pub rules-judged : (m : Links) (k : Marks) → Rules (mesh_of m k) → Judged m k None
 rules-judged m k r =
     passed (λ v _. r.c1v v) (passed (λ h _. r.c1h h) (passed (λ f _. r.c1f f) (passed (λ h _. r.c2 h) (passed (λ h _. r.c3 h) (passed (λ f _. r.c4 f) (passed (λ h _. r.c5 h)
     (passed (λ h _. r.c6 h) (passed (λ f _. r.c7 f) (passed (λ v _. r.c8 v) (passed (λ v _. r.c9 v) refl))))))))))
 
 -- the answer is none exactly if the mesh is consistent
-pub none-consistent : (m : Links) (k : Marks) → m.ne ≤ 1048576 → m.nf ≤ 1048576 → fault m k ≡ none → Consistent (mesh_of m k)
+pub none-consistent : (m : Links) (k : Marks) → m.ne ≤ 1048576 → m.nf ≤ 1048576 → fault m k ≡ None → Consistent (mesh_of m k)
 none-consistent m k e f q = rules-consistent (shape_of m k e f) (judged-none m k (subst (Judged m k) q (fault-judged m k)))
 
-pub consistent-none : (m : Links) (k : Marks) → m.ne ≤ 1048576 → m.nf ≤ 1048576 → Consistent (mesh_of m k) → fault m k ≡ none
+pub consistent-none : (m : Links) (k : Marks) → m.ne ≤ 1048576 → m.nf ≤ 1048576 → Consistent (mesh_of m k) → fault m k ≡ None
 consistent-none m k e f c = sym (judged-fault m k (rules-judged m k (consistent-rules (shape_of m k e f) c)))
 
 -- ---- a fault
@@ -94,11 +95,11 @@ module _ (m : Links) (k : Marks) where
   -- one stage: the fault is of it, or of what comes after
   at_stage : (r : Rule) {rule : ℕ} {place : ℕ → Place} {size : ℕ} {Rest : Option Fault → Type 0} {x : Fault} → ((i : ℕ) → fault_at r i ≡ record { rule = rule; place = place i })
       → ((j : ℕ) → (j < size → Holds m k r j) → Holds m k r j) → Below (order r)
-      → Stage rule place size (Holds m k r) Rest (some x) → (Below (suc (order r)) → Rest (some x) → Names m k x) → Names m k x
-  at_stage r is in_range b (broken_at i l f y e) next = record { r = r; i = i; says = some-injective _ _ e ∙ sym (is i); broken = y; first_place = f; lowest = b }
+      → Stage rule place size (Holds m k r) Rest (Some x) → (Below (suc (order r)) → Rest (Some x) → Names m k x) → Names m k x
+  at_stage r is in_range b (broken_at i l f y e) next = record { r = r; i = i; says = same_Some _ _ e ∙ sym (is i); broken = y; first_place = f; lowest = b }
   at_stage r is in_range b (passed f t) next = next (below_next r b (λ j. in_range j (f j))) t
 
-  names : {x : Fault} → Judged m k (some x) → Names m k x
+  names : {x : Fault} → Judged m k (Some x) → Names m k x
   names j =
       at_stage rule-1-vertex (λ i. refl) (λ j h a. h a.0 a) (λ q l. absurd (not-suc-le-zero l)) j (λ b j.
       at_stage rule-1-halfedge (λ i. refl) (λ j h a. h a.0 a) b j (λ b j.
@@ -110,8 +111,8 @@ module _ (m : Links) (k : Marks) where
       at_stage rule-6 (λ i. refl) (λ j h a. h a.0 a) b j (λ b j.
       at_stage rule-7 (λ i. refl) (λ j h a. h a.0 a) b j (λ b j.
       at_stage rule-8 (λ i. refl) (λ j h a. h a.0 a) b j (λ b j.
-      at_stage rule-9 (λ i. refl) (λ j h a. h a.0 a) b j (λ b e. absurd (none-ne-some _ (sym e)))))))))))))
+      at_stage rule-9 (λ i. refl) (λ j h a. h a.0 a) b j (λ b e. absurd (none-some _ (sym e)))))))))))))
 
   -- a fault names the lowest broken rule at its first place
-  pub fault-names : (x : Fault) → fault m k ≡ some x → Names m k x
+  pub fault-names : (x : Fault) → fault m k ≡ Some x → Names m k x
   fault-names x e = names (subst (Judged m k) e (fault-judged m k))

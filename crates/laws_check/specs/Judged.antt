@@ -1,6 +1,5 @@
 -- What a fault says, in propositions: the rules in order, each in order everywhere or broken at a first place. Assumes nothing.
-use Rattle.std.specs.Prelude.{◌≡◌, ℕ, ◌*◌, ◌<◌}
-use Rattle.std.proofs.Math.Option.{Option, none, some}
+use Rattle.std.specs.Prelude.{◌≡◌, ℕ, ◌*◌, ◌<◌, Option, None, Some}
 use Rattle.scope.specs.declared.answers.Place.{Place}
 use Rattle.scope.specs.declared.answers.Place.TheVariants.{AtVertex, AtHalfedge, AtFace}
 use Rattle.scope.specs.declared.answers.Fault.{Fault}
@@ -11,7 +10,7 @@ use Rattle.laws_mesh.specs.Of.{mesh_of}
 
 -- one rule at one kind of place, and what is said where it is in order everywhere
 pub data Stage (rule : ℕ) (place : ℕ → Place) (size : ℕ) (Ok : ℕ → Type 0) (Rest : Option Fault → Type 0) (a : Option Fault) : Type 0 where
-  broken_at : (i : ℕ) → i < size → ((j : ℕ) → j < i → Ok j) → (Ok i → ⊥) → a ≡ some (record { rule = rule; place = place i }) → Stage rule place size Ok Rest a
+  broken_at : (i : ℕ) → i < size → ((j : ℕ) → j < i → Ok j) → (Ok i → ⊥) → a ≡ Some (record { rule = rule; place = place i }) → Stage rule place size Ok Rest a
   passed : ((i : ℕ) → i < size → Ok i) → Rest a → Stage rule place size Ok Rest a
 
 -- a rule at the vertices, halfedges or faces that are there
@@ -37,4 +36,4 @@ Judged m k =
     (Stage 7 AtFace m.nf (AtF C7 m k)
     (Stage 8 AtVertex m.nv (AtV C8 m k)
     (Stage 9 AtVertex m.nv (AtV C9 m k)
-    (λ (a : Option Fault). a ≡ none)))))))))))
+    (λ (a : Option Fault). a ≡ None)))))))))))

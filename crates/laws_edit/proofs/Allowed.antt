@@ -1,9 +1,10 @@
 -- What is known where an edit is not refused, and the marks afterwards. Assumes nothing.
+use Rattle.std.proofs.lemmas.Option.{none-some, same_Some}
 use mathlib.Core.Path.{◌≡◌, refl, sym, ap, ◌∙◌, subst⁻¹}
 use mathlib.Core.Logic.{inl, inr, ◌≢◌}
 use mathlib.Core.Bool.{Bool, true, false, not, ◌||◌}
 use mathlib.Core.List.{List, [], ◌∷◌, ◌++◌}
-use mathlib.Core.Option.{Option, none, some, none-ne-some, some-injective}
+use Rattle.std.specs.Prelude.{Option, None, Some}
 use Prim.Native.Nat.{ℕ, zero, suc, ◌-◌, ◌*◌, ◌/◌, ◌≤◌}
 use native.Mathlib.Omega.{arith}
 use lib.ListN.{length, get_or, replicate, length-append, length-replicate}
@@ -27,36 +28,36 @@ use Rattle.laws_edit.specs.Kept.{Laid, marks_after, Kept}
 use Rattle.laws_edit.specs.Breaks.{Breaks, Guards}
 
 -- ---- refusals in a row: where there is none, none of them is given
-pub let_by : (b : Bool) (r : Refusal) (rest : Option Refusal) → refuse_if b r or_else rest ≡ none → (b ≡ false) × (rest ≡ none)
-let_by true r rest e = absurd (none-ne-some _ (sym e))
+pub let_by : (b : Bool) (r : Refusal) (rest : Option Refusal) → refuse_if b r or_else rest ≡ None → (b ≡ false) × (rest ≡ None)
+let_by true r rest e = absurd (none-some _ (sym e))
 let_by false r rest e = (refl, e)
 
-pub let-last : (b : Bool) (r : Refusal) → refuse_if b r ≡ none → b ≡ false
-let-last true r e = absurd (none-ne-some _ (sym e))
+pub let-last : (b : Bool) (r : Refusal) → refuse_if b r ≡ None → b ≡ false
+let-last true r e = absurd (none-some _ (sym e))
 let-last false r e = refl
 
-pub let-none : {A : Type 0} (o : Option A) (r : A → Refusal) (rest : Option Refusal) → refuse o r or_else rest ≡ none → (o ≡ none) × (rest ≡ none)
-let-none none r rest e = (refl, e)
-let-none (some x) r rest e = absurd (none-ne-some _ (sym e))
+pub let-none : {A : Type 0} (o : Option A) (r : A → Refusal) (rest : Option Refusal) → refuse o r or_else rest ≡ None → (o ≡ None) × (rest ≡ None)
+let-none None r rest e = (refl, e)
+let-none (Some x) r rest e = absurd (none-some _ (sym e))
 
-pub let-first : (o rest : Option Refusal) → o or_else rest ≡ none → (o ≡ none) × (rest ≡ none)
-let-first none rest e = (refl, e)
-let-first (some x) rest e = absurd (none-ne-some _ (sym e))
+pub let-first : (o rest : Option Refusal) → o or_else rest ≡ None → (o ≡ None) × (rest ≡ None)
+let-first None rest e = (refl, e)
+let-first (Some x) rest e = absurd (none-some _ (sym e))
 
 pub neither : (a b : Bool) → a || b ≡ false → (a ≡ false) × (b ≡ false)
 neither true b e = never e
 neither false b e = (refl, e)
 
 -- where a refusal is given: not one with another number, and the last only by its test
-pub let-past : (b : Bool) (r : Refusal) (rest : Option Refusal) (x : Refusal) → (said_of r).number ≢ (said_of x).number → refuse_if b r or_else rest ≡ some x → (b ≡ false) × (rest ≡ some x)
-let-past true r rest x n e = absurd (n (ap (λ (r : Refusal). (said_of r).number) (some-injective _ _ e)))
+pub let-past : (b : Bool) (r : Refusal) (rest : Option Refusal) (x : Refusal) → (said_of r).number ≢ (said_of x).number → refuse_if b r or_else rest ≡ Some x → (b ≡ false) × (rest ≡ Some x)
+let-past true r rest x n e = absurd (n (ap (λ (r : Refusal). (said_of r).number) (same_Some _ _ e)))
 let-past false r rest x n e = (refl, e)
 
-pub given-last : (b : Bool) (r x : Refusal) → refuse_if b r ≡ some x → b ≡ true
+pub given-last : (b : Bool) (r x : Refusal) → refuse_if b r ≡ Some x → b ≡ true
 given-last true r x e = refl
-given-last false r x e = absurd (none-ne-some _ e)
+given-last false r x e = absurd (none-some _ e)
 
-pub refused-by : (b : Bool) (r : Refusal) (rest : Option Refusal) → b ≡ true → refuse_if b r or_else rest ≡ some r
+pub refused-by : (b : Bool) (r : Refusal) (rest : Option Refusal) → b ≡ true → refuse_if b r or_else rest ≡ Some r
 refused-by true r rest e = refl
 refused-by false r rest e = never (sym e)
 
@@ -93,31 +94,31 @@ pub record Allowed (E : Edit) (m : Links) (k : Marks) : Type 0 where
   pub sized : Sized m
   pub long : Marked m k
   pub consistent : Consistent (mesh_of m k)
-  pub unmarked : E.whole ≡ true → marked k ≡ none
-  pub undenied : E.denied m k ≡ none
+  pub unmarked : E.whole ≡ true → marked k ≡ None
+  pub undenied : E.denied m k ≡ None
   pub room : Few (E.wanted m)
 
 if-true : {A : Type 0} (b : Bool) (x y : A) → b ≡ true → if b x y ≡ x
 if-true b x y e = subst⁻¹ (λ (b : Bool). if b x y ≡ x) e refl
 
 -- the first refusal and the last, for the slices that there are
-pub rooms : (E : Edit) (m : Links) (k : Marks) (own : Sizes) → edit_refusal E m k own ≡ none → Room (counts_of m) own × Room (E.wanted m) own
+pub rooms : (E : Edit) (m : Links) (k : Marks) (own : Sizes) → edit_refusal E m k own ≡ None → Room (counts_of m) own × Room (E.wanted m) own
 unfolding edit_refusal
 rooms E m k own e =
     let (short, e1) = let_by (not (fits (counts_of m) own)) _ _ e in
     let (sound, e2) = let-none (fault m k) _ _ e1 in
-    let (clean, e3) = let-none (if E.whole (marked k) none) _ _ e2 in
+    let (clean, e3) = let-none (if E.whole (marked k) None) _ _ e2 in
     let (fine, e4) = let-first (E.denied m k) _ e3 in
     (fits-room (counts_of m) own short, fits-room (E.wanted m) own (let-last (not (fits (E.wanted m) own)) _ e4))
 
-pub allowed : (E : Edit) (m : Links) (k : Marks) (own : Sizes) → Laid m k → edit_refusal E m k own ≡ none → Allowed E m k
+pub allowed : (E : Edit) (m : Links) (k : Marks) (own : Sizes) → Laid m k → edit_refusal E m k own ≡ None → Allowed E m k
 unfolding edit_refusal counts_of
 allowed E m k own l e =
     let (here, there) = rooms E m k own e in
     let few = here.few in
     let (short, e1) = let_by (not (fits (counts_of m) own)) _ _ e in
     let (sound, e2) = let-none (fault m k) _ _ e1 in
-    let (clean, e3) = let-none (if E.whole (marked k) none) _ _ e2 in
+    let (clean, e3) = let-none (if E.whole (marked k) None) _ _ e2 in
     record {
       sized = record { outs_long = l.outs_long; edges_long = l.edges_long; faces_long = l.faces_long; few_v = few.few_v; few_e = few.few_e; few_f = few.few_f };
       long = record { vs_long = l.vs_long; es_long = l.es_long; fs_long = l.fs_long };
@@ -205,8 +206,8 @@ unbroken s c (inr (f, i, n)) = n ((consistent-rules s c).c7 f i)
 abbrev pub Numbered : Links → Type 0
 Numbered m = (2 * m.ne ≤ NONE) × (m.nf ≤ NONE)
 
-pub after-guards : (E : Edit) (m : Links) (k : Marks) → (E.denied m k ≡ some WouldBreak → Breaks (mesh_of (E.links m) (E.marks k)))
-    → (E.denied m k ≡ none → Numbered (E.links m) × Consistent (mesh_of (E.links m) (E.marks k))) → Guards E m k
+pub after-guards : (E : Edit) (m : Links) (k : Marks) → (E.denied m k ≡ Some WouldBreak → Breaks (mesh_of (E.links m) (E.marks k)))
+    → (E.denied m k ≡ None → Numbered (E.links m) × Consistent (mesh_of (E.links m) (E.marks k))) → Guards E m k
 after-guards E m k f g = record {
   would_break = λ e. after-breaks (E.links m) (E.marks k) (f e);
   else_sound = λ e. after-consistent (E.links m) (E.marks k) (g e).1;

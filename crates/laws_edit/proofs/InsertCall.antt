@@ -1,8 +1,9 @@
 -- Insert edge as a call: what is known where it is not refused, and that it keeps a mesh consistent. Assumes nothing.
+use Rattle.std.proofs.lemmas.Option.{none-some, same_Some}
 use mathlib.Core.Path.{◌≡◌, refl, sym, ap, ◌∙◌, subst, subst⁻¹}
 use mathlib.Core.Logic.{◌⊎◌, inl, inr, ◌≢◌, ⊎_elim}
 use mathlib.Core.Bool.{Bool, true, false, not, ◌&&◌, ◌||◌}
-use mathlib.Core.Option.{none, some, none-ne-some, some-injective}
+use Rattle.std.specs.Prelude.{None, Some}
 use Prim.Native.Nat.{ℕ, ◌+◌, ◌*◌, ◌≤◌, ◌<◌}
 use native.Mathlib.Omega.{arith}
 use lib.Dec.{eqb, ltb}
@@ -186,7 +187,7 @@ module _ {m : Links} {k : Marks} {p n : ℕ} (a : Insertable m k p n) where
 
 -- ---- the answers
 -- none of 7 to 14
-spared : (p n g : ℕ) (m : Links) (k : Marks) → Sized m → Marked m k → Consistent (mesh_of m k) → (insert_edge_edit p n g).denied m k ≡ none → Admitted m k p n g × (face m p ≢ NONE → next m (next m p) ≢ n)
+spared : (p n g : ℕ) (m : Links) (k : Marks) → Sized m → Marked m k → Consistent (mesh_of m k) → (insert_edge_edit p n g).denied m k ≡ None → Admitted m k p n g × (face m p ≢ NONE → next m (next m p) ≢ n)
 unfolding insert_edge_edit
 spared p n g m k z l c e =
     let (bad, e1) = let_by (not (is_h m k p && is_h m k n) || (not (eqb g NONE) && not (ltb g m.nf))) _ _ e in
@@ -199,7 +200,7 @@ spared p n g m k z l c e =
     )
 
 -- 14
-single : (p n g : ℕ) (m : Links) (k : Marks) → Sized m → Marked m k → Consistent (mesh_of m k) → (insert_edge_edit p n g).denied m k ≡ some WouldBreak
+single : (p n g : ℕ) (m : Links) (k : Marks) → Sized m → Marked m k → Consistent (mesh_of m k) → (insert_edge_edit p n g).denied m k ≡ Some WouldBreak
     → Admitted m k p n g × (face m p ≢ NONE) × (next m (next m p) ≡ n)
 unfolding insert_edge_edit
 single p n g m k z l c e =
@@ -292,7 +293,7 @@ told-not {b} {P} t x = go b t
     go true t = absurd (x (t.so refl))
     go false t = refl
 
-pub nine-apart : (p n g : ℕ) (m : Links) (k : Marks) → Sized m → Consistent (mesh_of m k) → (insert_edge_edit p n g).denied m k ≡ some HalfedgesNotInTheSameLoop → ¬ Reach (next m) p n
+pub nine-apart : (p n g : ℕ) (m : Links) (k : Marks) → Sized m → Consistent (mesh_of m k) → (insert_edge_edit p n g).denied m k ≡ Some HalfedgesNotInTheSameLoop → ¬ Reach (next m) p n
 unfolding insert_edge_edit
 nine-apart p n g m k z c e r =
     let (bad, e1) = let-past (not (is_h m k p && is_h m k n) || (not (eqb g NONE) && not (ltb g m.nf))) _ _ HalfedgesNotInTheSameLoop (λ q. omega arith) e in
@@ -305,12 +306,12 @@ nine-apart p n g m k z c e r =
     let e5 = passed-by (not (has n (loop m p))) HalfedgesNotInTheSameLoop _ (told-not (t_not (t-on_loop m k p n z c pi)) (λ q. q r)) in
     never14 (not (rim m p) && eqb (next m (next m p)) n) (sym e5 ∙ e4)
   where
-    never14 : (b : Bool) → refuse_if b WouldBreak ≡ some HalfedgesNotInTheSameLoop → ⊥
-    never14 true e = let q = ap (λ (r : Refusal). (said_of r).number) (some-injective _ _ e) in omega arith
-    never14 false e = absurd (none-ne-some _ e)
+    never14 : (b : Bool) → refuse_if b WouldBreak ≡ Some HalfedgesNotInTheSameLoop → ⊥
+    never14 true e = let q = ap (λ (r : Refusal). (said_of r).number) (same_Some _ _ e) in omega arith
+    never14 false e = absurd (none-some _ e)
 
 pub apart-nine : (p n g : ℕ) (m : Links) (k : Marks) → Sized m → Consistent (mesh_of m k) → (mesh_of m k).is_h p → (mesh_of m k).is_h n → Free m k g → ¬ Reach (next m) p n
-    → (insert_edge_edit p n g).denied m k ≡ some HalfedgesNotInTheSameLoop
+    → (insert_edge_edit p n g).denied m k ≡ Some HalfedgesNotInTheSameLoop
 unfolding insert_edge_edit
 apart-nine p n g m k z c pi ni free far =
     passed-by (not (is_h m k p && is_h m k n) || (not (eqb g NONE) && not (ltb g m.nf))) BadHandle _

@@ -2,7 +2,7 @@
 use mathlib.Core.Path.{◌≡◌, sym, ap, ◌∙◌, subst, subst⁻¹}
 use mathlib.Core.Bool.{false, not}
 use mathlib.Core.List.{List, map}
-use mathlib.Core.Option.{none}
+use Rattle.std.specs.Prelude.{None}
 use Prim.Native.Nat.{ℕ, zero, suc, ◌+◌, ◌*◌, ◌/◌}
 use native.Mathlib.Omega.{arith}
 use lib.ListN.{get_or}
@@ -53,7 +53,7 @@ module _ (m : Links) (k : Marks) (e : ℕ) (z : Sized m) (c : Consistent (mesh_o
   pub partner-in : (mesh_of m k).is_h (2 * e) → (mesh_of m k).is_h (2 * e + 1)
   partner-in i = subst (mesh_of m k).is_h (partner-even e) ((shape_of m k z.few_e z.few_f).H-partner (2 * e) i)
 
-  pub swappable : swap_denied end e m k ≡ none → Swappable (mesh_of m k) m (end m) e
+  pub swappable : swap_denied end e m k ≡ None → Swappable (mesh_of m k) m (end m) e
   unfolding swap_denied
   swappable q =
       let (bad, q1) = let_by (not (is_e m k e)) _ _ q in

@@ -2,7 +2,7 @@
 use mathlib.Core.Path.{◌≡◌, refl}
 use mathlib.Core.Logic.{◌⊎◌, inl, inr, ◌≢◌}
 use mathlib.Core.Bool.{not}
-use mathlib.Core.Option.{some}
+use Rattle.std.specs.Prelude.{Some}
 use Prim.Native.Nat.{ℕ, ◌+◌, ◌*◌}
 use native.Mathlib.Omega.{arith}
 use Rattle.scope.specs.declared.answers.Refusal.TheVariants.{WouldBreak}
@@ -68,7 +68,7 @@ module _ (m : Links) (k : Marks) (e : ℕ) (z : Sized m) (c : Consistent (mesh_o
       go (inr f) = f
 
   -- a new end is the head of a halfedge of the face that gets it
-  taken : (end : Links → ℕ → ℕ) → swap_denied end e m k ≡ some WouldBreak
+  taken : (end : Links → ℕ → ℕ) → swap_denied end e m k ≡ Some WouldBreak
       → Edge (mesh_of m k).is_h (mesh_of m k).is_v (mesh_of m k).is_f m (2 * e) (2 * e + 1)
       × (((t : ℕ) × Reach (next m) (2 * e) t × (head m t ≡ end m (2 * e + 1))) ⊎ ((t : ℕ) × Reach (next m) (2 * e + 1) t × (head m t ≡ end m (2 * e))))
   unfolding swap_denied

@@ -1,8 +1,9 @@
 -- Triangulate keeps a mesh consistent. Assumes nothing.
+use Rattle.std.proofs.lemmas.Option.{none-some}
 use mathlib.Core.Path.{◌≡◌, refl, sym, ap, subst}
 use mathlib.Core.Bool.{true}
 use mathlib.Core.List.{List}
-use mathlib.Core.Option.{Option, none, some, none-ne-some}
+use Rattle.std.specs.Prelude.{Option, None, Some}
 use Prim.Native.Nat.{ℕ, ◌*◌, zero, suc, ◌≤◌, ◌<◌}
 use native.Mathlib.Decide.{dec_lt}
 use native.Mathlib.Omega.{arith}
@@ -27,19 +28,19 @@ use Rattle.laws_edit.specs.Kept.{Keeps}
 use Rattle.laws_edit.proofs.Allowed.{allowed, after_kept}
 
 -- ---- nothing is marked
-no-spot : (o : Option ℕ) (p : ℕ → Place) (rest : Option Place) → spot p o or_else rest ≡ none → (o ≡ none) × (rest ≡ none)
-no-spot none p rest e = (refl, e)
-no-spot (some i) p rest e = absurd (none-ne-some _ (sym e))
+no-spot : (o : Option ℕ) (p : ℕ → Place) (rest : Option Place) → spot p o or_else rest ≡ None → (o ≡ None) × (rest ≡ None)
+no-spot None p rest e = (refl, e)
+no-spot (Some i) p rest e = absurd (none-some _ (sym e))
 
-last-spot : (o : Option ℕ) (p : ℕ → Place) → spot p o ≡ none → o ≡ none
-last-spot none p e = refl
-last-spot (some i) p e = absurd (none-ne-some _ (sym e))
+last-spot : (o : Option ℕ) (p : ℕ → Place) → spot p o ≡ None → o ≡ None
+last-spot None p e = refl
+last-spot (Some i) p e = absurd (none-some _ (sym e))
 
-zeros : (l : List ℕ) → set_mark l ≡ none → (i : ℕ) → get_or l i 0 ≡ 0
+zeros : (l : List ℕ) → set_mark l ≡ None → (i : ℕ) → get_or l i 0 ≡ 0
 unfolding set_mark
 zeros l e i = all (subst (Sought (λ i. Unit {0} → get_or l i 0 ≡ 0) (length l)) e (first-sought (length l) {there = λ i. true} {ok = λ i. eqb (get_or l i 0) 0} (λ i. told tt) (λ i _. t-eq (get_or l i 0) 0)))
   where
-    all : Sought (λ i. Unit {0} → get_or l i 0 ≡ 0) (length l) none → get_or l i 0 ≡ 0
+    all : Sought (λ i. Unit {0} → get_or l i 0 ≡ 0) (length l) None → get_or l i 0 ≡ 0
     all (nowhere f) = here (dec_lt i (length l))
       where
         here : Dec (i < length l) → get_or l i 0 ≡ 0
@@ -47,7 +48,7 @@ zeros l e i = all (subst (Sought (λ i. Unit {0} → get_or l i 0 ≡ 0) (length
         here (no h) = get_d_past l i (omega arith)
 
 -- whatever the counts
-pub none-marked : (m : Links) (k : Marks) → marked k ≡ none → Unmarked m k
+pub none-marked : (m : Links) (k : Marks) → marked k ≡ None → Unmarked m k
 unfolding marked
 none-marked m k e =
     let (f, e1) = no-spot (set_mark k.fs) AtFace _ e in

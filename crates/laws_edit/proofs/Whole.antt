@@ -2,7 +2,7 @@
 use mathlib.Core.Path.{◌≡◌, refl, sym, ap, ◌∙◌, subst, subst⁻¹}
 use mathlib.Core.Bool.{Bool, true, false}
 use mathlib.Core.List.{List, [], ◌∷◌}
-use mathlib.Core.Option.{Option, none, some}
+use Rattle.std.specs.Prelude.{Option, None, Some, Ok, Err}
 use Prim.Native.Nat.{ℕ, zero, suc, ◌*◌, ◌≤◌}
 use native.Mathlib.Nat.{le_of_suc-le-suc, not-suc-le-zero}
 use native.Mathlib.Omega.{arith}
@@ -10,8 +10,7 @@ use lib.ListN.{length, take}
 use lib.Seq.{length-take-le, take_all}
 use Rattle.scope.specs.declared.records.Counts.{Counts}
 use Rattle.scope.specs.declared.answers.Refusal.{Refusal}
-use Rattle.scope.specs.declared.answers.Edited.{Edited}
-use Rattle.scope.specs.declared.answers.Edited.TheVariants.{Changed, Unchanged}
+use Rattle.scope.specs.Answers.{Edited}
 use Rattle.scope.specs.Lists.{over}
 use Rattle.scope.specs.Links.{Links, Marks}
 use Rattle.scope.specs.Check.{fault}
@@ -80,16 +79,16 @@ read-marks m k o l r = ap-lists marks _ _ _ k.vs k.es k.fs
 
 -- ---- the whole call
 abbrev counts-in : Edited → Counts
-counts-in (Changed c x) = c
-counts-in (Unchanged r) = record { v = 0; e = 0; f = 0 }
+counts-in (Ok (c, x)) = c
+counts-in (Err r) = record { v = 0; e = 0; f = 0 }
 
 abbrev pub done : Edited → Bool
-done (Changed c x) = true
-done (Unchanged r) = false
+done (Ok (c, x)) = true
+done (Err r) = false
 
 module _ (E : Edit) (keeps : Keeps E) (o : Own) where
   -- what is left where nothing is refused
-  leaves : edit_refusal E (own_links o) (own_marks o) (sizes o.slices) ≡ none → Leaves E o (counts_of (E.links (own_links o)))
+  leaves : edit_refusal E (own_links o) (own_marks o) (sizes o.slices) ≡ None → Leaves E o (counts_of (E.links (own_links o)))
   unfolding edit edit_ended links_of counts_of
   leaves e =
       let (here, there) = rooms E (own_links o) (own_marks o) (sizes o.slices) e in
@@ -108,11 +107,11 @@ module _ (E : Edit) (keeps : Keeps E) (o : Own) where
         sound = ap (λ (x : Links). fault x (own_marks (edit E o).left)) ls ∙ ap (fault l) ks ∙ consistent-none l k room.few.few_e room.few.few_f kept.consistent;
       }
 
-  pub edit-leaves : (c : Counts) (x : ℕ) → (edit E o).answer ≡ Changed c x → Leaves E o c
+  pub edit-leaves : (c : Counts) (x : ℕ) → (edit E o).answer ≡ Ok (c, x) → Leaves E o c
   unfolding edit edit_ended
   edit-leaves c x e = go (edit_refusal E (own_links o) (own_marks o) (sizes o.slices)) refl e
     where
       go : (r : Option Refusal) → edit_refusal E (own_links o) (own_marks o) (sizes o.slices) ≡ r
-          → (edit_ended r (E.links (own_links o)) (marks_after E (own_links o) (own_marks o)) (E.value (own_links o)) o).answer ≡ Changed c x → Leaves E o c
-      go none q e = subst (Leaves E o) (ap counts-in e) (leaves q)
-      go (some r) q e = never (sym (ap done e))
+          → (edit_ended r (E.links (own_links o)) (marks_after E (own_links o) (own_marks o)) (E.value (own_links o)) o).answer ≡ Ok (c, x) → Leaves E o c
+      go None q e = subst (Leaves E o) (ap counts-in e) (leaves q)
+      go (Some r) q e = never (sym (ap done e))

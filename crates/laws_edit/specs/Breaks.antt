@@ -1,6 +1,5 @@
 -- Answer 14: what it is to break C6 or C7, and to be given exactly then. Assumes nothing.
-use Rattle.std.specs.Prelude.{◌≡◌, ◌⊎◌, ℕ}
-use Rattle.std.proofs.Math.Option.{none, some}
+use Rattle.std.specs.Prelude.{◌≡◌, ◌⊎◌, ℕ, None, Some}
 use Rattle.scope.specs.declared.answers.Refusal.TheVariants.{WouldBreak}
 use Rattle.scope.specs.Links.{Links, Marks}
 use Rattle.scope.specs.EditCalls.{Edit}
@@ -15,9 +14,9 @@ Breaks M = ((h : ℕ) × M.is_h h × (C6 M h → ⊥)) ⊎ ((f : ℕ) × M.is_f 
 
 -- on a consistent mesh: where the edit answers 14, what it would leave breaks C6 or C7; where it answers none of 7 to 14, that is consistent, so it breaks neither
 pub record Guards (E : Edit) (m : Links) (k : Marks) : Type 0 where
-  pub would_break : E.denied m k ≡ some WouldBreak → Breaks (mesh_of (E.links m) (marks_after E m k))
-  pub else_sound : E.denied m k ≡ none → Consistent (mesh_of (E.links m) (marks_after E m k))
-  pub else_unbroken : E.denied m k ≡ none → ¬ Breaks (mesh_of (E.links m) (marks_after E m k))
+  pub would_break : E.denied m k ≡ Some WouldBreak → Breaks (mesh_of (E.links m) (marks_after E m k))
+  pub else_sound : E.denied m k ≡ None → Consistent (mesh_of (E.links m) (marks_after E m k))
+  pub else_unbroken : E.denied m k ≡ None → ¬ Breaks (mesh_of (E.links m) (marks_after E m k))
 
 abbrev pub Guarded : Edit → Type 0
 Guarded E = (m : Links) (k : Marks) → Sized m → Marked m k → Consistent (mesh_of m k) → Guards E m k

@@ -1,6 +1,5 @@
 -- What an edit that is done leaves: lists as long as the counts say, a consistent mesh, the counts that were judged. Assumes nothing.
-use Rattle.std.specs.Prelude.{◌≡◌, ◌*◌, length}
-use Rattle.std.proofs.Math.Option.{none}
+use Rattle.std.specs.Prelude.{◌≡◌, ◌*◌, length, None}
 use Rattle.scope.specs.Links.{Links, Marks}
 use Rattle.scope.specs.Tally.{counts_of}
 use Rattle.scope.specs.Slices.{Sizes}
@@ -28,4 +27,4 @@ pub record Kept (E : Edit) (m : Links) (k : Marks) : Type 0 where
 
 -- whatever it is asked of, if it is not refused
 abbrev pub Keeps : Edit → Type 0
-Keeps E = (m : Links) (k : Marks) (own : Sizes) → Laid m k → edit_refusal E m k own ≡ none → Kept E m k
+Keeps E = (m : Links) (k : Marks) (own : Sizes) → Laid m k → edit_refusal E m k own ≡ None → Kept E m k

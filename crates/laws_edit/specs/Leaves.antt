@@ -1,6 +1,5 @@
 -- What a whole call of an edit leaves in its own mesh when it is done. Assumes nothing.
-use Rattle.std.specs.Prelude.{◌≡◌}
-use Rattle.std.proofs.Math.Option.{none}
+use Rattle.std.specs.Prelude.{◌≡◌, None}
 use Rattle.scope.specs.declared.records.Counts.{Counts}
 use Rattle.scope.specs.Links.{Links, Marks}
 use Rattle.scope.specs.Check.{fault}
@@ -23,4 +22,4 @@ pub record Leaves (E : Edit) (o : Own) (c : Counts) : Type 0 where
   pub links_left : own_links (edit E o).left ≡ E.links (own_links o)
   pub marks_left : own_marks (edit E o).left ≡ marks_after E (own_links o) (own_marks o)
   -- and the check finds nothing wrong in it
-  pub sound : fault (own_links (edit E o).left) (own_marks (edit E o).left) ≡ none
+  pub sound : fault (own_links (edit E o).left) (own_marks (edit E o).left) ≡ None

@@ -1,4 +1,5 @@
 -- The theorems about calls on the small meshes: their premises are met, by computation. Assumes nothing.
+use Rattle.std.specs.Prelude.{Ok, Err}
 use mathlib.Core.Path.{◌≡◌, refl, ◌∙◌}
 use mathlib.Core.Bool.{Bool, true, false}
 use Prim.Native.Nat.{ℕ, ◌+◌, ◌*◌}
@@ -9,7 +10,6 @@ use lib.Ieee.{binary64, of_int}
 use Rattle.scope.specs.declared.records.Counts.{Counts}
 use Rattle.scope.specs.declared.answers.Place.TheVariants.{AtFace}
 use Rattle.scope.specs.declared.answers.Refusal.TheVariants.{MarkedDeleted}
-use Rattle.scope.specs.declared.answers.Subdivided.TheVariants.{Done, Refused}
 use Rattle.scope.specs.Lists.{each, has, distinct, first, all, only, round, number_of, sum}
 use Rattle.scope.specs.Links.{Links, partner, loop, around, is_v, is_h, is_f}
 use Rattle.scope.specs.Check.{every, c1_vertex, c1_halfedge, c1_face, c2, c3, c4, c5, c6, c7, c8, c9, fault, set_mark, marked}
@@ -70,7 +70,7 @@ wheel-twice = twice sqrt3 sqrt3-repeats sqrt3-room-is-enough true (given wheel) 
 
 -- ---- a call that is done, and what it made
 abbrev Done-well : Scheme → ℕ → Bool → Given → Buffers → Counts → Bool → Type 0
-Done-well S sides flag g b c next = ((call S 1 flag g b).answer ≡ Done c next) × Made S sides 1 flag g c next (call S 1 flag g b).left
+Done-well S sides flag g b c next = ((call S 1 flag g b).answer ≡ Ok (c, next)) × Made S sides 1 flag g c next (call S 1 flag g b).left
 
 -- none of the six conditions holds, and the table gives these counts
 done-well : (S : Scheme) (sides : ℕ) → Makes S sides → (flag : Bool) (g : Given) (b : Buffers) (c : Counts) (next : Bool) → Past6 S 1 flag g b →
@@ -113,10 +113,10 @@ abbrev worn-given : Given
 worn-given = record { counts = counts_of worn; slices = slices_of worn worn_marks; points = replicate (3 * worn.nv) float_zero }
 
 pub worn-copied : (S : Scheme) (flag : Bool) → let b = lent 1 7 5 4 2 0 in
-    call S 0 flag worn-given b ≡ record { answer = Done (counts 5 4 2) flag; left = filled (counts 5 4 2) worn-given.slices worn-given.points b }
+    call S 0 flag worn-given b ≡ record { answer = Ok (counts 5 4 2, flag); left = filled (counts 5 4 2) worn-given.slices worn-given.points b }
 unfolding fault counts_of every c1_vertex c1_halfedge c1_face c2 c3 c4 c5 c6 c7 c8 c9 has distinct first all is_v is_h is_f partner around loop round marks_of links_of used sizes fits fits_with
 worn-copied S flag = copies S flag worn-given (lent 1 7 5 4 2 0) refl refl refl
 
-pub worn-refused : (S : Scheme) (flag : Bool) (b : Buffers) → (call S 1 flag worn-given b).answer ≡ Refused (MarkedDeleted (AtFace 1))
+pub worn-refused : (S : Scheme) (flag : Bool) (b : Buffers) → (call S 1 flag worn-given b).answer ≡ Err (MarkedDeleted (AtFace 1))
 unfolding When fault counts_of every c1_vertex c1_halfedge c1_face c2 c3 c4 c5 c6 c7 c8 c9 has distinct first all is_v is_h is_f partner around loop round set_mark marked marks_of links_of used sizes fits fits_with unwanted
-worn-refused S flag b = (exactly S 1 flag worn-given b (Refused (MarkedDeleted (AtFace 1)))).1 (((omega arith, refl), refl), refl)
+worn-refused S flag b = (exactly S 1 flag worn-given b (Err (MarkedDeleted (AtFace 1)))).1 (((omega arith, refl), refl), refl)

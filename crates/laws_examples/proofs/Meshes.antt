@@ -1,7 +1,7 @@
 -- The small meshes are good, as the check finds; so the laws of the passes and of split face hold of them, and are not empty. Assumes nothing.
 use mathlib.Core.Path.{◌≡◌, refl}
 use mathlib.Core.List.{[]}
-use mathlib.Core.Option.{none}
+use Rattle.std.specs.Prelude.{None}
 use native.Mathlib.Omega.{arith}
 use Rattle.scope.specs.Lists.{has, distinct, first, all, round}
 use Rattle.scope.specs.Links.{Links, Marks, partner, loop, around, is_v, is_h, is_f}
@@ -17,7 +17,7 @@ use Rattle.laws_examples.specs.Meshes.{triangle, cube, wheel, worn, worn_marks}
 abbrev unmarked : Marks
 unmarked = record { vs = []; es = []; fs = [] }
 
-good : (m : Links) → Sized m → fault m unmarked ≡ none → Good m
+good : (m : Links) → Sized m → fault m unmarked ≡ None → Good m
 good m z e = record {
   sized = z;
   consistent = to-mesh m unmarked (record { no-v = λ v l. get_d_past [] v (omega arith); no-e = λ v l. get_d_past [] v (omega arith); no-f = λ v l. get_d_past [] v (omega arith) })

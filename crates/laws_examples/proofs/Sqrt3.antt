@@ -1,7 +1,7 @@
 -- The laws of triangulate and sqrt3 on small meshes: their premises hold there, with either flag. Assumes nothing.
 use mathlib.Core.Path.{◌≡◌, refl, sym, ap, ◌∙◌}
 use mathlib.Core.Bool.{true, false, true≢false}
-use mathlib.Core.Option.{none}
+use Rattle.std.specs.Prelude.{None}
 use Prim.Native.Nat.{zero, suc}
 use native.Mathlib.Omega.{arith}
 use Rattle.scope.specs.Lists.{round, sum, number_of, only, first}
@@ -66,7 +66,7 @@ wheel-triangles (suc (suc zero)) l = refl
 wheel-triangles (suc (suc (suc zero))) l = refl
 wheel-triangles (suc (suc (suc (suc f)))) l = absurd (omega arith)
 
-wheel-rims : two_rims wheel ≡ none
+wheel-rims : two_rims wheel ≡ None
 unfolding two_rims first only loop round partner
 wheel-rims = refl
 

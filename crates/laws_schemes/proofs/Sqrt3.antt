@@ -1,7 +1,7 @@
 -- sqrt3 keeps the laws of a scheme, and what follows for its calls. Assumes nothing.
 use mathlib.Core.Path.{◌≡◌, refl, ◌∙◌}
 use mathlib.Core.Bool.{Bool, true, false, not, false≢true}
-use mathlib.Core.Option.{Option, none, some}
+use Rattle.std.specs.Prelude.{Option, None, Some}
 use Prim.Native.Nat.{ℕ, ◌<◌}
 use native.Mathlib.Omega.{arith}
 use Rattle.scope.specs.Links.{Links}
@@ -35,16 +35,16 @@ more flag t h = omega arith
 
 -- ---- the flag
 settled-twice : (o : Option ℕ) (flag : Bool) → settled o (settled o flag) ≡ settled o flag
-settled-twice none flag = refl
-settled-twice (some f) flag = refl
+settled-twice None flag = refl
+settled-twice (Some f) flag = refl
 
 settled-false : (o : Option ℕ) → settled o false ≡ false
-settled-false none = refl
-settled-false (some f) = refl
+settled-false None = refl
+settled-false (Some f) = refl
 
-settled-none : (o : Option ℕ) (flag : Bool) → settled o flag ≡ flag → flag ≡ true → o ≡ none
-settled-none none flag e h = refl
-settled-none (some f) flag e h = absurd (false≢true (e ∙ h))
+settled-none : (o : Option ℕ) (flag : Bool) → settled o flag ≡ flag → flag ≡ true → o ≡ None
+settled-none None flag e h = refl
+settled-none (Some f) flag e h = absurd (false≢true (e ∙ h))
 
 -- where a pass may begin: triangles, and the flag is settled
 record At (flag : Bool) (m : Links) : Type 0 where
@@ -52,7 +52,7 @@ record At (flag : Bool) (m : Links) : Type 0 where
   pub three : Triangles m
   pub still : settled (two_rims m) flag ≡ flag
 
-single : (flag : Bool) (m : Links) → At flag m → flag ≡ true → two_rims m ≡ none
+single : (flag : Bool) (m : Links) → At flag m → flag ≡ true → two_rims m ≡ None
 single flag m h = settled-none (two_rims m) flag h.still
 
 passed : (flag : Bool) (m : Links) → At flag m → Within (sqrt_tally flag (tally_of m)) →

@@ -1,8 +1,7 @@
 -- Document 01's table (section 3), said of whole calls: the counts and the flag of a call of one pass that is done. V, E and F of the mesh given
 -- are v, e and f; s is the sum of its face lengths, b the number of its edges with a rim halfedge. Assumes nothing.
-use Rattle.std.specs.Prelude.{◌+◌, ◌-◌, ◌*◌, ◌≡◌, Bool, not}
+use Rattle.std.specs.Prelude.{◌+◌, ◌-◌, ◌*◌, ◌≡◌, Bool, not, Ok}
 use Rattle.scope.specs.declared.records.Counts.{Counts}
-use Rattle.scope.specs.declared.answers.Subdivided.TheVariants.{Done}
 use Rattle.scope.specs.Lists.{if}
 use Rattle.scope.specs.Edits.{triangulate}
 use Rattle.scope.specs.Tally.{tally_of}
@@ -13,7 +12,7 @@ use Rattle.laws_call.specs.Demand.{links_in}
 
 -- whenever one pass is done, its counts and flag are these
 abbrev Table : Scheme → (Bool → Given → Counts × Bool) → Type 0
-Table S row = (flag : Bool) (g : Given) (b : Buffers) (c : Counts) (next : Bool) → (call S 1 flag g b).answer ≡ Done c next → (c, next) ≡ row flag g
+Table S row = (flag : Bool) (g : Given) (b : Buffers) (c : Counts) (next : Bool) → (call S 1 flag g b).answer ≡ Ok (c, next) → (c, next) ≡ row flag g
 
 abbrev pub CatmullTable : Type 0
 CatmullTable = Table catmull (λ update g.

@@ -2,7 +2,7 @@
 use mathlib.Core.Path.{◌≡◌, refl, sym, ap, ◌∙◌, subst, subst⁻¹}
 use mathlib.Core.Logic.{◌⊎◌, inl, inr, ◌≢◌}
 use mathlib.Core.Bool.{Bool, true, false}
-use mathlib.Core.Option.{none, some}
+use Rattle.std.specs.Prelude.{None, Some}
 use Prim.Native.Nat.{ℕ, zero, suc, ◌+◌, ◌*◌, ◌≤◌, ◌<◌}
 use native.Mathlib.Decide.{dec_lt}
 use native.Mathlib.Omega.{arith}
@@ -238,7 +238,7 @@ module _ (m₀ m : Links) (g₀ : Good m₀) (tri : Triangular (mesh m₀)) (f :
 
   edge-step : Edged m₀ (sqrt_face true f m) (suc f)
   unfolding sqrt_face
-  edge-step = side-cases m p.good p.tri f fi (λ o. Edged m₀ (elim o [ none ↦ centre_face f m | some h ↦ rim_face h m ]) (suc f)) step-rim step-centre
+  edge-step = side-cases m p.good p.tri f fi (λ o. Edged m₀ (elim o [ None ↦ centre_face f m | Some h ↦ rim_face h m ]) (suc f)) step-rim step-centre
 
 edges : (m₀ : Links) (f : ℕ) → f ≤ m₀.nf → Good m₀ → Triangular (mesh m₀)
     → m₀.nv + m₀.nf + number_of m₀.nf (rimmed m₀) ≤ 1048576 → m₀.ne + 3 * m₀.nf + number_of m₀.nf (rimmed m₀) ≤ 1048576 → 3 * m₀.nf ≤ 1048576
@@ -286,17 +286,17 @@ module _ (m : Links) (g : Good m) (T₀ : Triangles m) where
   room-false : Within (sqrt_tally false (tally_of m)) → (m.nv + m.nf ≤ 1048576) × (m.ne + 3 * m.nf ≤ 1048576) × (3 * m.nf ≤ 1048576)
   room-false w = let (a, b, c) = room false w in (omega arith, omega arith, c)
 
-  room-true : two_rims m ≡ none → Within (sqrt_tally true (tally_of m)) → Room (number_of m.nf (rimmed m))
+  room-true : two_rims m ≡ None → Within (sqrt_tally true (tally_of m)) → Room (number_of m.nf (rimmed m))
   room-true one w = subst Room (rims-faces m g T₀ one) (room true w)
 
   -- after the first f faces
   pub spread-false : Within (sqrt_tally false (tally_of m)) → (f : ℕ) → f ≤ m.nf → Spread m (each f (sqrt_face false) m) Any f
   spread-false w f l = let (a, b, c) = room-false w in (centres m f l g tri a b c).spread
 
-  pub spread-true : two_rims m ≡ none → Within (sqrt_tally true (tally_of m)) → (f : ℕ) → f ≤ m.nf → Spread m (each f (sqrt_face true) m) (Two m) f
+  pub spread-true : two_rims m ≡ None → Within (sqrt_tally true (tally_of m)) → (f : ℕ) → f ≤ m.nf → Spread m (each f (sqrt_face true) m) (Two m) f
   spread-true one w f l = let (a, b, c) = room-true one w in (edges m f l g tri a b c).spread
 
-  passes : (flag : Bool) → (flag ≡ true → two_rims m ≡ none) → Within (sqrt_tally flag (tally_of m))
+  passes : (flag : Bool) → (flag ≡ true → two_rims m ≡ None) → Within (sqrt_tally flag (tally_of m))
       → Passed (sqrt_pass flag m) (m.nv + m.nf + if flag (number_of m.ne (rim_edge m)) 0) (m.ne + 3 * m.nf + if flag (number_of m.ne (rim_edge m)) 0) (3 * m.nf)
   passes false one w =
       let (a, b, c) = room-false w in
@@ -308,7 +308,7 @@ module _ (m : Links) (g : Good m) (T₀ : Triangles m) where
       let p = passed-true m g tri a b c in
       record { good = p.good; tri = p.tri; nv_is = (let q = p.nv_is in omega arith); ne_is = (let q = p.ne_is in omega arith); nf_is = p.nf_is }
 
-  module _ (flag : Bool) (one : flag ≡ true → two_rims m ≡ none) (w : Within (sqrt_tally flag (tally_of m))) where
+  module _ (flag : Bool) (one : flag ≡ true → two_rims m ≡ None) (w : Within (sqrt_tally flag (tally_of m))) where
     pub sqrt-good : Good (sqrt_pass flag m)
     sqrt-good = (passes flag one w).good
 
@@ -336,14 +336,14 @@ module _ (m : Links) (g : Good m) (T₀ : Triangles m) where
     sqrt-euler = let p = passes flag one w in let a = p.nv_is in let b = p.ne_is in let c = p.nf_is in omega arith
 
   -- after a pass with the flag false no face has more than one rim edge
-  pub two_rims-after : Within (sqrt_tally false (tally_of m)) → two_rims (sqrt_pass false m) ≡ none
+  pub two_rims-after : Within (sqrt_tally false (tally_of m)) → two_rims (sqrt_pass false m) ≡ None
   two_rims-after w =
       let (a, b, c) = room-false w in
       let p = passed-false m g tri a b c in
       none-two (sqrt_pass false m) p.good p.tri (rims-false m g tri a b c)
 
 -- a pass of sqrt3 leaves a good mesh of triangles with document 01's counts
-pub sqrt-pass : (flag : Bool) (m : Links) → Good m → Triangles m → (flag ≡ true → two_rims m ≡ none) → Within (sqrt_tally flag (tally_of m))
+pub sqrt-pass : (flag : Bool) (m : Links) → Good m → Triangles m → (flag ≡ true → two_rims m ≡ None) → Within (sqrt_tally flag (tally_of m))
     → Good (sqrt_pass flag m) × Triangles (sqrt_pass flag m) × (tally_of (sqrt_pass flag m) ≡ sqrt_tally flag (tally_of m))
 sqrt-pass flag m g t one w = (sqrt-good m g t flag one w, sqrt-triangles m g t flag one w, sqrt-tally m g t flag one w)
 
@@ -358,7 +358,7 @@ pub record Partway (m₀ m : Links) (flag : Bool) (f : ℕ) : Type 0 where
   pub e-most : m.ne ≤ (sqrt_tally flag (tally_of m₀)).e
 
 module _ (m : Links) (g : Good m) (T₀ : Triangles m) where
-  pub partway : (flag : Bool) → (flag ≡ true → two_rims m ≡ none) → Within (sqrt_tally flag (tally_of m)) → (f : ℕ) → f ≤ m.nf → Partway m (each f (sqrt_face flag) m) flag f
+  pub partway : (flag : Bool) → (flag ≡ true → two_rims m ≡ None) → Within (sqrt_tally flag (tally_of m)) → (f : ℕ) → f ≤ m.nf → Partway m (each f (sqrt_face flag) m) flag f
   unfolding sqrt_tally tally_of
   partway false one w f l =
       let (a, b, c) = room-false m g T₀ w in
@@ -372,7 +372,7 @@ module _ (m : Links) (g : Good m) (T₀ : Triangles m) where
       record { good = s.spread.good; tri = s.spread.tri; nf_is = s.spread.nf_is; ne-lo = s.spread.ne-lo; v-most = (let q = s.nv_is in omega arith); e-most = (let q = s.ne_is in omega arith) }
 
   -- while the edges are swapped
-  pub swapping : (flag : Bool) → (flag ≡ true → two_rims m ≡ none) → Within (sqrt_tally flag (tally_of m)) → (e : ℕ) → e ≤ m.ne → Good (each e swap_inner (each m.nf (sqrt_face flag) m))
+  pub swapping : (flag : Bool) → (flag ≡ true → two_rims m ≡ None) → Within (sqrt_tally flag (tally_of m)) → (e : ℕ) → e ≤ m.ne → Good (each e swap_inner (each m.nf (sqrt_face flag) m))
   swapping false one w e l =
       let (a, b, c) = room-false m g T₀ w in
       let s = centred m g (tri m g T₀) a b c in

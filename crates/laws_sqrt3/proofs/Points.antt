@@ -2,7 +2,7 @@
 use mathlib.Core.Path.{◌≡◌, refl, sym, ap}
 use mathlib.Core.Bool.{Bool, true, false}
 use mathlib.Core.List.{List, [], ◌++◌, map}
-use mathlib.Core.Option.{Option, none, some}
+use Rattle.std.specs.Prelude.{Option, None, Some}
 use Prim.Native.Nat.{ℕ, zero, suc, ◌+◌, ◌*◌}
 use native.Mathlib.Omega.{arith}
 use lib.ListN.{length, length-append, length-map}
@@ -29,16 +29,16 @@ use Rattle.laws_sqrt3.proofs.Pass.{sqrt-vertices}
 module _ (flag : Bool) (m : Links) (ps : List Float) where
   -- does face f get a pair
   abbrev pair : ℕ → Bool
-  pair f = there (if flag (rim_side f m) none)
+  pair f = there (if flag (rim_side f m) None)
 
   given-long : (f : ℕ) → length (given (sqrt_answer flag m ps f)) ≡ 1 + bit (pair f)
   unfolding sqrt_answer sqrt_pair
   given-long f = go (face_point m ps f)
-      (λ h. let r = partner h in sqrt_pair (point_at ps (head m (next m r))) (point_at ps (head m r)) (point_at ps (tail m r)) (point_at ps (tail m (prev m r)))) (if flag (rim_side f m) none) (λ h. refl)
+      (λ h. let r = partner h in sqrt_pair (point_at ps (head m (next m r))) (point_at ps (head m r)) (point_at ps (tail m r)) (point_at ps (tail m (prev m r)))) (if flag (rim_side f m) None) (λ h. refl)
     where
-      go : (c : Point) (pairs : ℕ → FacePoints) (o : Option ℕ) → ((h : ℕ) → length (given (pairs h)) ≡ 2) → length (given (elim o [ none ↦ Centre c | some h ↦ pairs h ])) ≡ 1 + bit (there o)
-      go c pairs none l = refl
-      go c pairs (some h) l = l h
+      go : (c : Point) (pairs : ℕ → FacePoints) (o : Option ℕ) → ((h : ℕ) → length (given (pairs h)) ≡ 2) → length (given (elim o [ None ↦ Centre c | Some h ↦ pairs h ])) ≡ 1 + bit (there o)
+      go c pairs None l = refl
+      go c pairs (Some h) l = l h
 
   answers-long : (k n : ℕ) → length (answers flag m ps (range k n)) + number_of k pair ≡ n + number_of (k + n) pair
   unfolding answers range number_of
@@ -64,13 +64,13 @@ module _ (flag : Bool) (m : Links) (ps : List Float) where
       omega arith
 
 -- as many pairs as rim edges, if the flag is true
-pairs-are : (flag : Bool) (m : Links) → Good m → Triangles m → (flag ≡ true → two_rims m ≡ none) → number_of m.nf (pair flag m []) ≡ if flag (number_of m.ne (rim_edge m)) 0
+pairs-are : (flag : Bool) (m : Links) → Good m → Triangles m → (flag ≡ true → two_rims m ≡ None) → number_of m.nf (pair flag m []) ≡ if flag (number_of m.ne (rim_edge m)) 0
 unfolding rimmed
 pairs-are false m g t one = count_none (pair false m []) m.nf (λ f i u. u)
 pairs-are true m g t one = sym (rims-faces m g t (one refl))
 
 -- three numbers for each vertex that the pass leaves
-pub sqrt-points-long : (flag : Bool) (m : Links) (ps : List Float) → Good m → Triangles m → (flag ≡ true → two_rims m ≡ none) → Within (sqrt_tally flag (tally_of m))
+pub sqrt-points-long : (flag : Bool) (m : Links) (ps : List Float) → Good m → Triangles m → (flag ≡ true → two_rims m ≡ None) → Within (sqrt_tally flag (tally_of m))
     → length (sqrt_points flag m ps) ≡ 3 * (sqrt_pass flag m).nv
 sqrt-points-long flag m ps g t one w =
     let a = points-long flag m ps in

@@ -3,7 +3,7 @@ use mathlib.Core.Path.{◌≡◌, refl, sym, ap, ◌∙◌, subst, subst⁻¹}
 use mathlib.Core.Logic.{◌⊎◌, inl, inr, ◌≢◌}
 use mathlib.Core.Bool.{Bool, true, false, not, ◌&&◌, ◌||◌}
 use mathlib.Core.List.{List, [], ◌∷◌}
-use mathlib.Core.Option.{Option, none, some}
+use Rattle.std.specs.Prelude.{Option, None, Some}
 use Prim.Native.Nat.{ℕ, zero, suc, ◌+◌, ◌-◌, ◌*◌, ◌/◌, ◌%◌, ◌<◌}
 use native.Mathlib.Nat.{not-suc-le-zero}
 use native.Mathlib.Omega.{arith}
@@ -92,7 +92,7 @@ module _ (m : Links) (g : Good m) (tri : Triangular (mesh m)) (f : ℕ) (i : f <
       go (inr (inr q)) = inr (inr (q ∙ sym (tri-back S g.consistent tri z zi zn)))
 
   -- `rim_side` finds a rim edge where there is one
-  pub side-cases : (P : Option ℕ → Type 0) → ((t : ℕ) → RimAt m f t → P (some t)) → (((t : ℕ) → ¬ RimAt m f t) → P none) → P (rim_side f m)
+  pub side-cases : (P : Option ℕ → Type 0) → ((t : ℕ) → RimAt m f t → P (Some t)) → (((t : ℕ) → ¬ RimAt m f t) → P None) → P (rim_side f m)
   unfolding rim_side rim_of
   side-cases P p q = subst⁻¹ (λ (l : List ℕ). P (rim_of m l)) three-list (go (rim m (partner z)) (rim m (partner x)) (rim m (partner y)) refl refl refl)
     where
@@ -110,7 +110,7 @@ module _ (m : Links) (g : Good m) (tri : Triangular (mesh m)) (f : ℕ) (i : f <
           out (inr (inl e)) = away x bx (ap (λ (u : ℕ). face m (partner u)) (sym e) ∙ w.across)
           out (inr (inr e)) = away y by' (ap (λ (u : ℕ). face m (partner u)) (sym e) ∙ w.across)
 
-      go : (bz bx by' : Bool) → rim m (partner z) ≡ bz → rim m (partner x) ≡ bx → rim m (partner y) ≡ by' → P (if bz (some z) (if bx (some x) (if by' (some y) none)))
+      go : (bz bx by' : Bool) → rim m (partner z) ≡ bz → rim m (partner x) ≡ bx → rim m (partner y) ≡ by' → P (if bz (Some z) (if bx (Some x) (if by' (Some y) None)))
       go true bx by' ez ex ey = p z (at z zi zf ez)
       go false true by' ez ex ey = p x (at x xi xf ex)
       go false false true ez ex ey = p y (at y yi yf ey)
@@ -211,28 +211,28 @@ module _ (m : Links) (g : Good m) (tri : Triangular (mesh m)) (f : ℕ) (i : f <
       go (inr (inr p)) (inr (inr q)) = p ∙ sym q
 
 -- ---- all faces
-found_none : (n : ℕ) (ok : ℕ → Bool) → ((i : ℕ) → i < n → T (ok i)) → first n (λ f. true) ok ≡ none
+found_none : (n : ℕ) (ok : ℕ → Bool) → ((i : ℕ) → i < n → T (ok i)) → first n (λ f. true) ok ≡ None
 unfolding first
 found_none zero ok h = refl
 found_none (suc n) ok h =
-    ap (λ (o : Option ℕ). o or_else if (true && not (ok n)) (some n) none) (found_none n ok (λ i l. h i (omega arith)))
+    ap (λ (o : Option ℕ). o or_else if (true && not (ok n)) (Some n) None) (found_none n ok (λ i l. h i (omega arith)))
     ∙ go (ok n) (h n (omega arith))
   where
-    go : (b : Bool) → T b → if (true && not b) (some n) none ≡ none
+    go : (b : Bool) → T b → if (true && not b) (Some n) None ≡ None
     go true t = refl
     go false t = absurd t
 
-none_found : (n : ℕ) (ok : ℕ → Bool) → first n (λ f. true) ok ≡ none → (i : ℕ) → i < n → T (ok i)
+none_found : (n : ℕ) (ok : ℕ → Bool) → first n (λ f. true) ok ≡ None → (i : ℕ) → i < n → T (ok i)
 unfolding first
 none_found zero ok e i l = absurd (not-suc-le-zero l)
-none_found (suc n) ok e i l = split i n (λ q. subst⁻¹ (λ (i : ℕ). T (ok i)) q (here (ok n) (both (first n (λ f. true) ok) (if (true && not (ok n)) (some n) none) e).1))
-    (λ q. none_found n ok (both (first n (λ f. true) ok) (if (true && not (ok n)) (some n) none) e).0 i (omega arith))
+none_found (suc n) ok e i l = split i n (λ q. subst⁻¹ (λ (i : ℕ). T (ok i)) q (here (ok n) (both (first n (λ f. true) ok) (if (true && not (ok n)) (Some n) None) e).1))
+    (λ q. none_found n ok (both (first n (λ f. true) ok) (if (true && not (ok n)) (Some n) None) e).0 i (omega arith))
   where
-    both : (o r : Option ℕ) → o or_else r ≡ none → (o ≡ none) × (r ≡ none)
-    both none r q = (refl, q)
-    both (some j) r q = absurd (subst (λ (o : Option ℕ). T (there o)) q tt)
+    both : (o r : Option ℕ) → o or_else r ≡ None → (o ≡ None) × (r ≡ None)
+    both None r q = (refl, q)
+    both (Some j) r q = absurd (subst (λ (o : Option ℕ). T (there o)) q tt)
 
-    here : (b : Bool) → if (true && not b) (some n) none ≡ none → T b
+    here : (b : Bool) → if (true && not b) (Some n) None ≡ None → T b
     here true q = tt
     here false q = absurd (subst (λ (o : Option ℕ). T (there o)) q tt)
 
@@ -248,11 +248,11 @@ module _ (m : Links) (g : Good m) (tri : Triangular (mesh m)) where
       go (inr q) = q
 
   -- `two_rims` finds nothing exactly if no face has two rim edges
-  pub none-two : OneRim (mesh m) → two_rims m ≡ none
+  pub none-two : OneRim (mesh m) → two_rims m ≡ None
   unfolding two_rims
   none-two one = found_none m.nf (λ f. leb (length (only (λ h. rim m (partner h)) (loop m (start m f)))) 1) (λ f i. few-yes m g tri f i one)
 
-  pub two_none : two_rims m ≡ none → OneRim (mesh m)
+  pub two_none : two_rims m ≡ None → OneRim (mesh m)
   unfolding two_rims
   two_none e = record {
     sole = λ a b ai bi af ab pa pb.
@@ -318,5 +318,5 @@ module _ (m : Links) (g : Good m) (tri : Triangular (mesh m)) where
   })
 
 -- where no face has two rim edges, b is the number of faces with one
-pub rims-faces : (m : Links) → Good m → Triangles m → two_rims m ≡ none → number_of m.ne (rim_edge m) ≡ number_of m.nf (rimmed m)
+pub rims-faces : (m : Links) → Good m → Triangles m → two_rims m ≡ None → number_of m.ne (rim_edge m) ≡ number_of m.nf (rimmed m)
 rims-faces m g t e = let tri = to-triangular m g t in rims-match m g tri (two_none m g tri e)

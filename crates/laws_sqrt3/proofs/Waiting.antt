@@ -3,7 +3,7 @@ use mathlib.Core.Path.{◌≡◌, refl, sym, ap, ◌∙◌, subst, subst⁻¹}
 use mathlib.Core.Logic.{◌≢◌}
 use mathlib.Core.Bool.{Bool, true, false}
 use mathlib.Core.List.{[], ◌∷◌}
-use mathlib.Core.Option.{none}
+use Rattle.std.specs.Prelude.{None}
 use Prim.Native.Nat.{ℕ, ◌*◌, ◌≤◌, ◌<◌}
 use native.Mathlib.Decide.{dec_lt}
 use native.Mathlib.Omega.{arith}
@@ -101,7 +101,7 @@ module _ (m : Links) (g : Good m) (t : Triangles m) (f h : ℕ) (l : f ≤ h) (i
   tri₀ : Triangular (mesh m)
   tri₀ = to-triangular m g t
 
-  pub still : (flag : Bool) → (flag ≡ true → two_rims m ≡ none) → Within (sqrt_tally flag (tally_of m)) → Still m (each f (sqrt_face flag) m) h
+  pub still : (flag : Bool) → (flag ≡ true → two_rims m ≡ None) → Within (sqrt_tally flag (tally_of m)) → Still m (each f (sqrt_face flag) m) h
   still false one w = let s = spread-false m g t w f (omega arith) in let n = each f (sqrt_face false) m in
       record { loop_is = loop-kept m n Any f g tri₀ s h l i; head_is = head-kept m n Any f g tri₀ s h l i; side-is = side-kept m n Any f g tri₀ s h l i }
   still true one w = let s = spread-true m g t (one refl) w f (omega arith) in let n = each f (sqrt_face true) m in

@@ -1,12 +1,11 @@
 -- Faces with an edge on the rim. Assumes nothing.
-use Rattle.std.specs.Prelude.{Bool, true, false, ℕ}
-use Rattle.std.proofs.Math.Option.{Option, none, some}
+use Rattle.std.specs.Prelude.{Bool, true, false, ℕ, Option, None, Some}
 use Rattle.scope.specs.Links.{Links}
 use Rattle.scope.specs.Passes.{rim_side}
 
 abbrev pub there : Option ℕ → Bool
-there none = false
-there (some h) = true
+there None = false
+there (Some h) = true
 
 -- has face f an edge on the rim
 unfoldable pub rimmed : Links → ℕ → Bool

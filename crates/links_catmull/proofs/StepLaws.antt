@@ -12,16 +12,14 @@ use Rattle.laws_mesh.proofs.Loops.{steps}
 use Rattle.laws_mesh.proofs.LoopParts.{pairs-length}
 use Rattle.laws_mesh.proofs.FromOld.{first-old}
 use Rattle.mesh.specs.Words.{next_at, Has}
-use Rattle.mesh.specs.Rounds.{Walk, loop_at}
+use Rattle.mesh.specs.Rounds.{loop_at}
 use Rattle.mesh.proofs.SliceLaws.{set-put}
 use Rattle.links_edits.specs.Petal.{PetalOk}
 use Rattle.links_edits.specs.Held.{held}
+use Rattle.links_edits.proofs.FoldLaws.{each-more}
+use Rattle.links_edits.proofs.StoreLaws.{links-is}
 use Rattle.links_edits.proofs.PetalLaws.{petal-held}
-use Rattle.links_catmull.specs.Steps.{PartOk, FanOk, FanReady, parts, FaceOk}
-
-each_on : {A : Type 0} (n : ℕ) (step : ℕ → A → A) (a : A) → step n (each n step a) ≡ each (suc n) step a
-unfolding each
-each_on n step a = refl
+use Rattle.links_catmull.specs.Steps.{PartOk, FanOk, parts, FaceOk}
 
 -- ---- the parts of a face
 
@@ -64,17 +62,6 @@ module _ {nx : ℕ → ℕ} {c e n i g k a : ℕ} {t w : Links} (d : Fanning nx 
     pub fan-on : Fanning nx c e n (suc i) k (suc k) (nx (nx a)) (petal c (2 * (e + i) + 1) (2 * (e + (suc i % n))) (pair nx a g) t) w
     unfolding petals
     fan-on = record { ready = ready.1; whole = whole }
-
--- the first part is next
-pub fan-start : {nx : ℕ → ℕ} {c e n f a : ℕ} (g : ℕ) {t : Links} → FanOk nx c e n 0 (pairs f g (steps nx a (2 * n))) t
-    → Fanning nx c e n 0 f (g + 0) a t (petals c e n 0 (pairs f g (steps nx a (2 * n))) t)
-fan-start {nx} {c} {e} {n} {f} {a} g {t} k =
-    let p : g ≡ g + 0 = omega arith in
-    let q : n ≡ n - 0 = omega arith in
-    record {
-      ready = subst (λ (j : ℕ). FanOk nx c e n 0 (pairs f (g + 0) (steps nx a (2 * j))) t) q (subst (λ (g : ℕ). FanOk nx c e n 0 (pairs f g (steps nx a (2 * n))) t) p k);
-      whole = sym (ap (λ (g : ℕ). petals c e n 0 (pairs f g (steps nx a (2 * n))) t) p ∙ ap (λ (j : ℕ). petals c e n 0 (pairs f (g + 0) (steps nx a (2 * j))) t) q);
-    }
 
 -- the next part in slices, as the code reads it: b after h, u after b, r the number of the spoke that comes back
 module _ {nx : ℕ → ℕ} {c e n i own k h : ℕ} {es fs : List ℕ} {w : Links} (d : Fanning nx c e n i own k h (held 0 0 0 [] es fs) w) (l : i < n) where
@@ -176,66 +163,37 @@ module _ (old f : ℕ) (m : Links) (even : from_old old f m ≡ steps (next m) (
         nf_is = (let u = ap (λ (t : Links). t.nf) is in omega arith);
       }
 
--- a face as the code does it: a is where it starts, l the length of its loop
-module _ {old f : ℕ} {m : Links} (k : FaceOk old f m) {a : ℕ} (p : a ≡ first-old old f (held 0 0 0 [] m.edges m.faces)) where
-  a-is : a ≡ first-old old f m
-  unfolding first-old
-  a-is = p
+-- a face as the code does it: a is where it starts, k the number of its parts
+pub first-bare : (old f : ℕ) (m : Links) → first-old old f (held 0 0 0 [] m.edges m.faces) ≡ first-old old f m
+unfolding first-old
+first-bare old f m = refl
 
-  pub face-walk : Walk next_at m.edges m.ne a
-  face-walk = subst⁻¹ (Walk next_at m.edges m.ne) a-is k.walk
+pub loop-parts : (old f : ℕ) (m : Links) → length (loop_at m.edges m.ne (first-old old f m)) / 2 ≡ parts old f m
+unfolding from_old loop first-old
+loop-parts old f m = refl
 
-  module _ {l : ℕ} (q : l ≡ length (loop_at m.edges m.ne a)) where
-    pub face-parts : l / 2 ≡ parts old f m
-    unfolding from_old loop first-old
-    face-parts = ap (λ (x : ℕ). x / 2) (q ∙ ap (λ (x : ℕ). length (loop_at m.edges m.ne x)) a-is)
+module _ {old f : ℕ} {m : Links} (k : FaceOk old f m) where
+  pub face-done : {a n : ℕ} → a ≡ first-old old f m → n ≡ parts old f m → {outs edges faces : List ℕ}
+      → outs ≡ set m.outs m.nv (2 * m.ne + 1)
+      → edges ≡ (petals m.nv m.ne n 0 (pairs f m.nf (steps (next_at m.edges) a (2 * n))) (held 0 0 0 [] m.edges m.faces)).edges
+      → faces ≡ (petals m.nv m.ne n 0 (pairs f m.nf (steps (next_at m.edges) a (2 * n))) (held 0 0 0 [] m.edges m.faces)).faces
+      → held (m.nv + 1) (m.ne + n) (m.nf + (n - 1)) outs edges faces ≡ catmull_face old f m
+  face-done {a} {n} p q {outs} {edges} {faces} x y z =
+      let r = face-by old f m k.even in
+      let same : petals m.nv m.ne n 0 (pairs f m.nf (steps (next_at m.edges) a (2 * n))) (held 0 0 0 [] m.edges m.faces)
+      ≡ petals m.nv m.ne (parts old f m) 0 (walked old f m) (held 0 0 0 [] m.edges m.faces) = rw (p, q) in
+      links-is (held (m.nv + 1) (m.ne + n) (m.nf + (n - 1)) outs edges faces) (catmull_face old f m)
+      (sym r.nv_is)
+      (ap (λ (n : ℕ). m.ne + n) q ∙ sym r.ne_is)
+      (ap (λ (n : ℕ). m.nf + (n - 1)) q ∙ sym r.nf_is)
+      (x ∙ set-put m.outs m.nv (2 * m.ne + 1) k.vertex ∙ sym r.outs-is)
+      (y ∙ ap (λ (t : Links). t.edges) same ∙ sym r.edges-is)
+      (z ∙ ap (λ (t : Links). t.faces) same ∙ sym r.faces-is)
 
-    pub face-fan : FanReady m.edges m.faces m.nv m.ne m.nf f a (l / 2)
-    face-fan = rw (a-is, face-parts) k.fan_ok
+-- ---- the faces: t is m after its first f faces
+module _ (old f : ℕ) (m : Links) {t : Links} (d : t ≡ each f (catmull_face old) m) where
+  pub facing-ok : FaceOk old f (each f (catmull_face old) m) → FaceOk old f t
+  facing-ok k = subst⁻¹ (FaceOk old f) d k
 
-    same : petals m.nv m.ne (l / 2) 0 (pairs f m.nf (steps (next_at m.edges) a (2 * (l / 2)))) (held 0 0 0 [] m.edges m.faces)
-        ≡ petals m.nv m.ne (parts old f m) 0 (walked old f m) (held 0 0 0 [] m.edges m.faces)
-    same = rw (a-is, face-parts)
-
-    pub face-outs : {outs : List ℕ} → outs ≡ set m.outs m.nv (2 * m.ne + 1) → outs ≡ (catmull_face old f m).outs
-    face-outs e = e ∙ set-put m.outs m.nv (2 * m.ne + 1) k.vertex ∙ sym (face-by old f m k.even).outs-is
-
-    pub face-edges : {edges : List ℕ} → edges ≡ (petals m.nv m.ne (l / 2) 0 (pairs f m.nf (steps (next_at m.edges) a (2 * (l / 2)))) (held 0 0 0 [] m.edges m.faces)).edges
-        → edges ≡ (catmull_face old f m).edges
-    face-edges e = e ∙ ap (λ (t : Links). t.edges) same ∙ sym (face-by old f m k.even).edges-is
-
-    pub face-faces : {faces : List ℕ} → faces ≡ (petals m.nv m.ne (l / 2) 0 (pairs f m.nf (steps (next_at m.edges) a (2 * (l / 2)))) (held 0 0 0 [] m.edges m.faces)).faces
-        → faces ≡ (catmull_face old f m).faces
-    face-faces e = e ∙ ap (λ (t : Links). t.faces) same ∙ sym (face-by old f m k.even).faces-is
-
--- ---- the faces
-
--- the counts and slices are m after its first f faces
-pub record Facing (old f : ℕ) (m t : Links) : Type 0 where
-  pub same : t ≡ each f (catmull_face old) m
-
-pub facing-start : (old v e g : ℕ) (outs edges faces : List ℕ) → Facing old 0 (held v e g outs edges faces) (held (v + 0) e g outs edges faces)
-unfolding each
-facing-start old v e g outs edges faces = record { same = ap (λ (v : ℕ). held v e g outs edges faces) (let q : v + 0 ≡ v = omega arith in q) }
-
-pub facing-ok : {old f : ℕ} {m t : Links} → Facing old f m t → FaceOk old f (each f (catmull_face old) m) → FaceOk old f t
-facing-ok {old} {f} d k = subst⁻¹ (FaceOk old f) d.same k
-
-pub facing-on : {old f : ℕ} {m t : Links} {v n : ℕ} {outs edges faces : List ℕ} → Facing old f m t → FaceOk old f t → v ≡ t.nv + 1 → n ≡ parts old f t
-    → outs ≡ (catmull_face old f t).outs → edges ≡ (catmull_face old f t).edges → faces ≡ (catmull_face old f t).faces → Facing old (f + 1) m (held v (t.ne + n) (t.nf + (n - 1)) outs edges faces)
-facing-on {old} {f} {m} {t} {v} {n} {outs} {edges} {faces} d k a b x y z =
-    let r = face-by old f t k.even in
-    record { same = go (a ∙ sym r.nv_is) (ap (λ (n : ℕ). t.ne + n) b ∙ sym r.ne_is) (ap (λ (n : ℕ). t.nf + (n - 1)) b ∙ sym r.nf_is) }
-  where
-    go : {v e g : ℕ} → v ≡ (catmull_face old f t).nv → e ≡ (catmull_face old f t).ne → g ≡ (catmull_face old f t).nf → held v e g outs edges faces ≡ each (f + 1) (catmull_face old) m
-    go p q r =
-        rw (p, q, r, x, y, z) (
-        ap (catmull_face old f) d.same
-        ∙ on
-        ∙ ap (λ (j : ℕ). each j (catmull_face old) m) (let w : suc f ≡ f + 1 = omega arith in w))
-      where
-        on : catmull_face old f (each f (catmull_face old) m) ≡ each (suc f) (catmull_face old) m
-        on = each_on f (catmull_face old) m
-
-pub facing-done : (g : ℕ) {old f : ℕ} {m t : Links} → Facing old f m t → f ≡ g → t ≡ each g (catmull_face old) m
-facing-done g {old} {f} {m} {t} d e = subst (λ (f : ℕ). t ≡ each f (catmull_face old) m) e d.same
+  pub facing-vertices : FaceOk old f t → (each (f + 1) (catmull_face old) m).nv ≡ t.nv + 1
+  facing-vertices k = sym (ap (λ (t : Links). t.nv) (each-more f (catmull_face old) m d)) ∙ (face-by old f t k.even).nv_is

@@ -9,6 +9,7 @@ ghost use Rattle.links_edits.specs.Held.{given};
 ghost use Rattle.links_catmull.specs.Pass.{Ready};
 
 use crate::faces::split_faces;
+use links_edits::lent::Lent;
 use links_split::split_edges;
 use scope::records::Counts;
 
@@ -22,7 +23,15 @@ pub fn catmull_links(outs: &mut [u32], edges: &mut [u32], faces: &mut [u32], c: 
 {
     let v = c.v as u32;
     let e = c.e as u32;
-    let f = c.f as u32;
     split_edges(outs, edges, v, e);
-    split_faces(outs, edges, faces, v, v + e, 2 * e, f)
+    let mut m = Lent {
+        v: v + e,
+        e: 2 * e,
+        f: c.f as u32,
+        outs,
+        edges,
+        faces,
+    };
+    split_faces(&mut m, v);
+    m.counts()
 }

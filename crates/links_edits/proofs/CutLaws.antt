@@ -1,34 +1,57 @@
 -- A new edge across a face in slices is scope's on links that hold them, and in slices that hold a mesh it leaves the mesh after it. Assumes nothing.
 use Prim.Native.Nat.{ℕ, ◌+◌, ◌*◌, ◌≤◌, ◌<◌}
-use mathlib.Core.Path.{◌≡◌, refl, sym, ap, ◌∙◌}
-use mathlib.Core.Bool.{Bool, true, false}
+use mathlib.Core.Path.{◌≡◌, refl, sym, ap, subst, ◌∙◌}
+use mathlib.Core.Bool.{Bool, true, false, ◌||◌}
 use mathlib.Core.List.{List, [], ◌∷◌}
 use native.Mathlib.Omega.{arith}
 use lib.Dec.{eqb}
-use lib.ListN.{length, get_or, set, length-set}
+use lib.ListN.{length, get_or, set, drop, length-set}
+use borrow.Author.Tests.{eqb-false}
+use Rattle.std.specs.List.{list_any}
+use Rattle.std.proofs.lemmas.Bool.{eqb-true}
+use Rattle.std.proofs.lemmas.List.{at_drop_more}
 use Rattle.scope.specs.Lists.{put, lay, if, has}
 use Rattle.scope.specs.Links as links
 use Rattle.scope.specs.Links.{Links, partner, loop}
 use Rattle.scope.specs.Edits.{joined, paint, across_face, cut_off}
 use Rattle.laws_mesh.proofs.Stores.{face, head, next, prev, Store, store, stores, Below}
 use Rattle.laws_mesh.proofs.Paint.{paint-outs, paint-starts, paint-nv, paint-ne, paint-nf}
-use Rattle.mesh.specs.Words.{face_at, head_at, next_at, prev_at, tail_at, link_at, set_face}
+use Rattle.mesh.specs.Words.{face_at, head_at, next_at, prev_at, tail_at, link_at, set_face, Has}
 use Rattle.mesh.proofs.SliceLaws.{set-put, get_or-lay, length-lay}
+use Rattle.mesh.proofs.RoundLaws.{has_here, has-past}
 use Rattle.mesh.proofs.PartnerLaws.{partner-lt}
 use Rattle.links_edits.specs.declared.cut.Gap.{Gap}
 use Rattle.links_edits.specs.Held.{held, laid}
-use Rattle.links_edits.specs.Cut.{gap_of, closed, divided, cut_three, GapOk, AllLow, CutOk}
+use Rattle.links_edits.specs.Cut.{gap_of, closed, divided, painted, AllHave, GapOk, AllLow, CutOk}
 use Rattle.links_edits.proofs.StoreLaws.{sets, sets-stores, stores-lay, put-lay, held-is, links-is}
 use Rattle.links_edits.proofs.RingLaws.{Ring, ring-loop, ring_laid}
 
--- the last of a list
-pub has_last : (s c : ℕ) → eqb s c ≡ has s (c ∷ [])
+-- ---- a face for several halfedges, one after another
+pub painted-on : (es : List ℕ) (g : ℕ) (hs : List ℕ) (i : ℕ) → i < length hs → painted es g (drop i hs) ≡ painted (set_face es (get_or hs i 0) g) g (drop (i + 1) hs)
+unfolding painted
+painted-on es g hs i l = at_drop_more (painted es g) hs i 0 l
+
+have-set : (es : List ℕ) (i x : ℕ) (hs : List ℕ) → AllHave es hs → AllHave (set es i x) hs
+have-set es i x [] a = tt
+have-set es i x (h ∷ hs) (j, a) = (let n = length-set es i x in omega arith, have-set es i x hs a)
+
+pub have-on : (es : List ℕ) (g : ℕ) (hs : List ℕ) (i : ℕ) → i < length hs → AllHave es (drop i hs) → Has es (get_or hs i 0) × AllHave (set_face es (get_or hs i 0) g) (drop (i + 1) hs)
+have-on es g hs i l a = let b : AllHave es (get_or hs i 0 ∷ drop (i + 1) hs) = subst (AllHave es) (at_drop_more (λ x. x) hs i 0 l) a in
+    (b.0, have-set es (4 * get_or hs i 0) g (drop (i + 1) hs) b.1)
+
+pub have-all : (es : List ℕ) (n : ℕ) (hs : List ℕ) → 4 * n ≤ length es → AllLow n hs → AllHave es hs
+have-all es n [] l a = tt
+have-all es n (h ∷ hs) l (i, a) = (omega arith, have-all es n hs l a)
+
+-- the list's test, as std has it
+pub has-any : (s : ℕ) (l : List ℕ) → list_any (λ y. eqb y s) l ≡ has s l
 unfolding has
-has_last s c = go (eqb s c)
+has-any s [] = refl
+has-any s (y ∷ l) = go (eqb y s) refl (has-any s l)
   where
-    go : (b : Bool) → b ≡ if b true false
-    go true = refl
-    go false = refl
+    go : (b : Bool) → eqb y s ≡ b → list_any (λ y. eqb y s) l ≡ has s l → (b || list_any (λ y. eqb y s) l) ≡ has s (y ∷ l)
+    go true e r = sym (has_here s y l (eqb-true y s e))
+    go false e r = r ∙ sym (has-past s y l (eqb-false y s e))
 
 -- ---- the stores, the last first; u and v are the ends of the new edge, h and k its halves
 abbrev pub gap_run : Gap → ℕ → ℕ → ℕ → ℕ → List Store
@@ -41,6 +64,11 @@ gap_run x u v h k =
 abbrev pub paint_run : ℕ → List ℕ → List Store → List Store
 paint_run g [] r = r
 paint_run g (h ∷ hs) r = paint_run g hs (store face h g ∷ r)
+
+painted-run : (g : ℕ) (hs es : List ℕ) (r : List Store) → painted (sets es r) g hs ≡ sets es (paint_run g hs r)
+unfolding painted
+painted-run g [] es r = refl
+painted-run g (h ∷ hs) es r = painted-run g hs es (store face h g ∷ r)
 
 paint-run : (g : ℕ) (hs : List ℕ) (m : Links) (es : List ℕ) (r : List Store) → m.edges ≡ stores es r → (paint g hs m).edges ≡ stores es (paint_run g hs r)
 unfolding paint
@@ -131,15 +159,11 @@ module _ {es faces : List ℕ} {ne g p n : ℕ} {part : List ℕ} (k : CutOk es 
       ∙ ap (λ (t : List ℕ). put t (face_at es p) s) (set-put faces g (2 * ne + 1) k.new_face)
       ∙ sym (ap (λ (m : Links). m.faces) is)
 
--- as the code does it, where two or three are cut off
-pub three-edges : {es faces : List ℕ} {ne g p n : ℕ} → CutOk es faces ne g p n (next_at es p ∷ prev_at es n ∷ []) → cut_three es ne (gap_of es p n) g ≡ (cut_off p n (held 0 ne g [] es faces)).edges
-unfolding cut_three divided closed
-three-edges k = cut-in-edges k
-
-pub four-edges : {es faces : List ℕ} {ne g p n y : ℕ} → CutOk es faces ne g p n (next_at es p ∷ y ∷ prev_at es n ∷ [])
-    → set_face (set_face (set_face (set_face (divided es ne (gap_of es p n)) (2 * ne + 1) g) (next_at es p) g) y g) (prev_at es n) g ≡ (cut_off p n (held 0 ne g [] es faces)).edges
-unfolding divided closed
-four-edges k = cut-in-edges k
+-- as the code does it
+pub cut-edges : {es faces : List ℕ} {ne g p n : ℕ} {part : List ℕ} → CutOk es faces ne g p n part
+    → painted (set_face (divided es ne (gap_of es p n)) (2 * ne + 1) g) g part ≡ (cut_off p n (held 0 ne g [] es faces)).edges
+unfolding divided closed painted
+cut-edges {es} {faces} {ne} {g} {p} {n} {part} k = painted-run g ((2 * ne + 1) ∷ part) es _ ∙ cut-in-edges k
 
 -- ---- in slices that hold m
 -- what a cut touches is there, and the new half goes around the part

@@ -5,6 +5,7 @@ pub mod PetalLaws
 pub mod SwapLaws
 pub mod RingLaws
 pub mod CutLaws
+pub mod LentLaws
 pub mod AcrossLaws
 pub mod GapLaws
 pub mod FoldLaws

@@ -30,6 +30,11 @@ closed es x h k =
 unfoldable pub divided : List ℕ → ℕ → Gap → List ℕ
 divided es ne x = closed (put_edge es ne (gap_edge es x)) x (2 * ne) (2 * ne + 1)
 
+-- face g given to all of hs
+unfoldable pub painted : List ℕ → ℕ → List ℕ → List ℕ
+painted es g [] = es
+painted es g (h ∷ hs) = painted (set_face es h g) g hs
+
 -- and the new half, a and b given face g
 unfoldable pub cut_three : List ℕ → ℕ → Gap → ℕ → List ℕ
 cut_three es ne x g =
@@ -49,6 +54,11 @@ pub record GapOk (es : List ℕ) (ne : ℕ) (x : Gap) : Type 0 where
   pub room : Has es (2 * ne + 1)
   pub across : Has es (partner x.n)
   pub around : CloseOk es x
+
+-- all of hs are there
+abbrev pub AllHave : List ℕ → List ℕ → Type 0
+AllHave es [] = Unit {0}
+AllHave es (h ∷ hs) = Has es h × AllHave es hs
 
 -- all are below n
 abbrev pub AllLow : ℕ → List ℕ → Type 0

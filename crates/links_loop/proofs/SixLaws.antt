@@ -24,11 +24,11 @@ use Rattle.laws_loop.proofs.Cut.{across, cut-walk, cut-rest-length}
 use Rattle.laws_loop.proofs.Face as six
 use Rattle.mesh.proofs.SliceLaws.{set-lay, length-lay}
 use Rattle.links_edits.specs.declared.cut.Gap.{Gap}
-use Rattle.links_edits.specs.Cut.{divided, cut_three}
+use Rattle.links_edits.specs.Cut.{painted, divided, cut_three}
 use Rattle.links_edits.proofs.StoreLaws.{put-put, put-swap}
 use Rattle.links_edits.proofs.GapLaws.{Gapped, divided-laid, part-steps, cut-edges, cut-faces, three-part, cut-off-laid}
 use Rattle.links_loop.specs.declared.corners.Six.{Six}
-use Rattle.links_loop.specs.Corners.{painted, third, cornered, named, SixOk}
+use Rattle.links_loop.specs.Corners.{third, cornered, named, SixOk}
 use Rattle.links_loop.proofs.AlikeLaws.{whole₂, corners-same}
 
 -- ---- a part of any length

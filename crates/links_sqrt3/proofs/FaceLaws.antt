@@ -4,7 +4,7 @@ use mathlib.Core.Path.{◌≡◌, refl, sym, ap, ◌∙◌, subst⁻¹}
 use mathlib.Core.Logic.{◌≢◌}
 use mathlib.Core.Bool.{Bool, true, false}
 use mathlib.Core.List.{List, [], ◌∷◌}
-use mathlib.Core.Option.{Option, none, some}
+use Rattle.std.specs.Prelude.{Option, None, Some}
 use native.Mathlib.Omega.{arith}
 use lib.ListN.{length, get_or}
 use Rattle.scope.specs.Lists.{put, lay}
@@ -310,7 +310,7 @@ module _ (flag : Bool) (m : Links) (g : Good m) (tri : Triangular (mesh m)) (f :
   abbrev Opens : Option ℕ → Type 0
   Opens o = (opened f o m).nv ≤ v → (opened f o m).ne ≤ e → OpenOk o f (laid m outs edges faces) × (opened f o (laid m outs edges faces) ≡ laid (opened f o m) outs edges faces)
 
-  around-centre : Opens none
+  around-centre : Opens None
   around-centre p q =
       let k = centre-parts f (next m (start m f)) (next m (next m (start m f))) (start m f) m (loop-second m g tri f i) in
       let a = k.nv_is in
@@ -319,7 +319,7 @@ module _ (flag : Bool) (m : Links) (g : Good m) (tri : Triangular (mesh m)) (f :
         centre-laid m g tri f i outs edges faces (omega arith) (omega arith) (omega arith) (omega arith) long_f,
       )
 
-  on-rim : (h : ℕ) → RimAt m f h → Opens (some h)
+  on-rim : (h : ℕ) → RimAt m f h → Opens (Some h)
   on-rim h w p q =
       let (a, b, c) = rim-counts h m in (
         rim-laid-ok m g tri f i h w (omega arith) (omega arith) few_f outs edges faces (omega arith) (omega arith) long_f,
@@ -339,8 +339,8 @@ module _ (flag : Bool) (m : Links) (g : Good m) (tri : Triangular (mesh m)) (f :
   e-old = go (side_by flag f m) e-most
     where
       go : (o : Option ℕ) → (opened f o m).ne ≤ e → m.ne ≤ e
-      go none q = let b = (centre-parts f (next m (start m f)) (next m (next m (start m f))) (start m f) m (loop-second m g tri f i)).ne_is in omega arith
-      go (some h) q = let (a, b, c) = rim-counts h m in omega arith
+      go None q = let b = (centre-parts f (next m (start m f)) (next m (next m (start m f))) (start m f) m (loop-second m g tri f i)).ne_is in omega arith
+      go (Some h) q = let (a, b, c) = rim-counts h m in omega arith
 
   is : side_by flag f (laid m outs edges faces) ≡ side_by flag f m
   is = let q = e-old in side-laid m g tri f i outs edges faces (omega arith) (omega arith) flag

@@ -169,9 +169,6 @@ module _ {f : ℕ} {c : Counts} {outs edges₀ faces₀ : List ℕ} (r : FaceRea
     first-in : a < 2 * c.e
     first-in = subst⁻¹ (λ (y : ℕ). y < 2 * c.e) first (core.start_in f r.f_in)
 
-    pub first-has : Has edges₀ a
-    first-has = there a first-in
-
     module _ {x : ℕ} (x-is : x ≡ next_at edges₀ a) where
       then : x ≡ next (given c outs edges₀ faces₀) a
       then = x-is ∙ read (4 * a + 2) (let i = first-in in omega arith)

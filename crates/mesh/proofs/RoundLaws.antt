@@ -1,10 +1,10 @@
 -- The laws of a walk, over any step: one step of `round` (it comes back, or goes on), what is met stays in range, and walks that agree. Assumes nothing.
 use Prim.Native.Nat.{ℕ, zero, suc, ◌+◌, ◌-◌, ◌*◌, ◌≤◌, ◌<◌}
-use mathlib.Core.Path.{◌≡◌, refl, sym, ap, ◌∙◌}
+use mathlib.Core.Path.{◌≡◌, refl, sym, ap}
 use mathlib.Core.Bool.{Bool, true, false}
 use mathlib.Core.List.{List, [], ◌∷◌}
 use mathlib.Core.Logic.{◌≢◌}
-use mathlib.Core.Option.{none, some}
+use Rattle.std.specs.Prelude.{None, Some}
 use native.Mathlib.Omega.{arith}
 use lib.Dec.{eqb}
 use lib.ListN.{length, get_or, take}
@@ -31,38 +31,6 @@ round-on s step (suc n) x l e =
     let p : suc n - 1 ≡ n = omega arith in
     rw (ne_eqb (step x) s e, p)
 
--- ---- the invariant of a walk: what f makes of all that is left is the whole, a. What is done already is in f: a count, a sum so far
-pub record Left {A : Type 0} (f : List ℕ → A) (step : ℕ → ℕ) (s n x : ℕ) (a : A) : Type 0 where
-  pub whole : f (round s step n x) ≡ a
-
--- nothing is left
-pub left_out : {A : Type 0} {f : List ℕ → A} {step : ℕ → ℕ} {s n x : ℕ} {a : A} → Left f step s n x a → n ≤ 0 → f [] ≡ a
-unfolding round
-left_out {A} {f} {step} {s} {n} {x} {a} r l = go n l r.whole
-  where
-    go : (n : ℕ) → n ≤ 0 → f (round s step n x) ≡ a → f [] ≡ a
-    go zero l e = e
-    go (suc n) l e = absurd (omega arith)
-
--- x decides, whatever comes after it
-pub left-first : {A : Type 0} {f : List ℕ → A} {step : ℕ → ℕ} {s n x : ℕ} {a b : A} → Left f step s n x a → 0 < n → ((l : List ℕ) → f (x ∷ l) ≡ b) → b ≡ a
-unfolding round
-left-first {A} {f} {step} {s} {n} {x} {a} {b} r l d = go n l r.whole
-  where
-    go : (n : ℕ) → 0 < n → f (round s step n x) ≡ a → b ≡ a
-    go zero l e = absurd (omega arith)
-    go (suc n) l e = sym (d _) ∙ e
-
--- the step leads to y, which is the start again
-pub left_back : {A : Type 0} {f : List ℕ → A} {step : ℕ → ℕ} {s n x y : ℕ} {a : A} → Left f step s n x a → 0 < n → y ≡ step x → y ≡ s → f (x ∷ []) ≡ a
-left_back {A} {f} {step} {s} {n} {x} r l e b = sym (ap f (round-back s step n x l (sym e ∙ b))) ∙ r.whole
-
--- it leads to another y, and g makes of the rest what f makes of x and the rest
-pub left-on : {A : Type 0} {f g : List ℕ → A} {step : ℕ → ℕ} {s n x y : ℕ} {a : A} → Left f step s n x a → 0 < n → y ≡ step x → y ≢ s
-    → ((l : List ℕ) → f (x ∷ l) ≡ g l) → Left g step s (n - 1) y a
-left-on {A} {f} {g} {step} {s} {n} {x} {y} {a} r l e b d =
-    rw e (record { whole = sym (d _) ∙ sym (ap f (round-on s step n x l (λ w. b (e ∙ w)))) ∙ r.whole })
-
 -- ---- has, and the first that passes
 pub has-none : (v : ℕ) → has v [] ≡ false
 unfolding has
@@ -76,11 +44,11 @@ pub has-past : (v x : ℕ) (l : List ℕ) → x ≢ v → has v (x ∷ l) ≡ ha
 unfolding has
 has-past v x l e = rw (ne_eqb v x (λ w. e (sym w)))
 
-pub first-none : (test : ℕ → Bool) → first_of test [] ≡ none
+pub first-none : (test : ℕ → Bool) → first_of test [] ≡ None
 unfolding first_of
 first-none test = refl
 
-pub first-here : (test : ℕ → Bool) (x : ℕ) (l : List ℕ) → test x ≡ true → first_of test (x ∷ l) ≡ some x
+pub first-here : (test : ℕ → Bool) (x : ℕ) (l : List ℕ) → test x ≡ true → first_of test (x ∷ l) ≡ Some x
 unfolding first_of
 first-here test x l e = rw e
 
@@ -95,9 +63,6 @@ walk_here w = w.met 0
 
 pub walk-has : {step : List ℕ → ℕ → ℕ} {es : List ℕ} {n x : ℕ} → Walk step es n x → Has es x
 walk-has w = omega (arith, walk_here w, w.room)
-
-pub has-partner : {step : List ℕ → ℕ → ℕ} {es : List ℕ} {n x : ℕ} → Walk step es n x → Has es (partner x)
-has-partner {step} {es} {n} {x} w = omega (arith, partner-lt x n (walk_here w), w.room)
 
 pub walk-on : {step : List ℕ → ℕ → ℕ} {es : List ℕ} {n x y : ℕ} → y ≡ step es x → Walk step es n x → Walk step es n y
 unfolding after

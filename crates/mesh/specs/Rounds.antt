@@ -1,6 +1,5 @@
 -- Loops and turns (document 01, section 2) in the slices: each is by computation scope's on links whose lists these are. Assumes nothing.
-use Rattle.std.specs.Prelude.{ℕ, zero, suc, ◌+◌, ◌*◌, ◌≤◌, ◌<◌, Bool, ◌||◌, List, [], ◌∷◌, eqb, length}
-use Rattle.std.proofs.Math.Option.{Option, none, some}
+use Rattle.std.specs.Prelude.{ℕ, zero, suc, ◌+◌, ◌*◌, ◌≤◌, ◌<◌, Bool, ◌||◌, List, [], ◌∷◌, eqb, length, Option, None, Some}
 use Rattle.scope.specs.Lists.{if, round}
 use Rattle.scope.specs.Links.{NONE, partner}
 use Rattle.mesh.specs.Words.{face_at, next_at, turn_at, link_at}
@@ -35,8 +34,8 @@ side_at es h = rim_at es (partner h)
 
 -- the first of l that passes
 unfoldable pub first_of : (ℕ → Bool) → List ℕ → Option ℕ
-first_of test [] = none
-first_of test (x ∷ l) = let r = first_of test l in if (test x) (some x) r
+first_of test [] = None
+first_of test (x ∷ l) = let r = first_of test l in if (test x) (Some x) r
 
 -- x after i steps
 unfoldable pub after : (ℕ → ℕ) → ℕ → ℕ → ℕ

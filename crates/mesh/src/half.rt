@@ -1,10 +1,11 @@
-// Partners, and the single links of the halfedges: h has face, head, next, prev at 4h .. 4h + 3 of the edges.
+// Partners, and the single links of the halfedges: h has face, head, next, prev at 4h .. 4h + 3 of the edges. One function for each link, as
+// `next(edges, h)` says what a const parameter in `link::<2>(edges, h)` would not.
 
 ghost use Rattle.std.specs.Prelude.{◌≡◌};
 ghost use Rattle.scope.specs.Links.{partner};
 ghost use Rattle.mesh.specs.Words.{face_at, head_at, next_at, prev_at, tail_at, turn_at, set_face, set_head, set_next, set_prev, linked, Has};
 
-// No face, no halfedge.
+// No face, no halfedge: a word of the slices, whose form is document 01's and the C interface's.
 pub const NONE: u32 = 4294967295;
 
 // The other half of h's edge.

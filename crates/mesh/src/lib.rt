@@ -2,6 +2,7 @@
 
 #![tactic(auto)]
 
+pub mod given;
 pub mod half;
 pub mod rim;
 pub mod rows;

@@ -1,4 +1,5 @@
-// The records of a mesh, loaded from its slices and stored to them; the one link of a vertex and of a face.
+// The records of a mesh, loaded from its slices and stored to them, field by field: no record lies in the slices, whose form the C interface holds.
+// The one link of a vertex and of a face.
 
 ghost use Rattle.std.specs.Prelude.{◌≡◌, length, set, ◌+◌, ◌*◌, ◌<◌};
 ghost use Rattle.mesh.specs.Words.{Has, half_at, put_half, edge_at, put_edge, HasPoint, point_at, put_point, link_at};
@@ -34,9 +35,9 @@ pub fn load_edge(edges: &[u32], e: u32) -> Edge
     requires has { Has edges.now (2 * e + 1) }
     ensures { result ≡ edge_at edges.now e }
 {
-    let a = load_halfedge(edges, 2 * e);
-    let b = load_halfedge(edges, 2 * e + 1);
-    Edge { halves: [a, b] }
+    Edge {
+        halves: [load_halfedge(edges, 2 * e), load_halfedge(edges, 2 * e + 1)],
+    }
 }
 
 pub fn store_edge(edges: &mut [u32], e: u32, x: Edge)
@@ -44,8 +45,7 @@ pub fn store_edge(edges: &mut [u32], e: u32, x: Edge)
     requires has { Has edges.old (2 * e + 1) }
     ensures { edges.new ≡ put_edge edges.old e x }
 {
-    let a = x.halves[0];
-    let b = x.halves[1];
+    let [a, b] = x.halves;
     store_halfedge(edges, 2 * e, a);
     store_halfedge(edges, 2 * e + 1, b);
 }
@@ -72,6 +72,8 @@ pub fn store_point(points: &mut [f64], v: u32, p: Point)
     points[i + 2] = p.z;
 }
 
+// A vertex's link and a face's are read and stored alike, under the two names of document 01 that `loads` (is-out, is-start) states:
+// one function for both would hide from a caller which of them it is.
 // The halfedge that vertex v names.
 pub fn out(outs: &[u32], v: u32) -> u32
     requires { v < length outs.now }

@@ -1,1 +1,2 @@
 pub mod Adjust
+pub mod Rounds

@@ -1,29 +1,19 @@
-// How long loops and turns are.
+// How long loops and turns are. A loop and a turn have a line each over `Round`: the contracts name the definition's loop and turn.
 
 ghost use Rattle.std.specs.Prelude.{◌≡◌, ◌≢◌, length, ◌<◌};
 ghost use Rattle.scope.specs.Links.{NONE};
 ghost use Rattle.mesh.specs.Words.{next_at, turn_at, link_at};
 ghost use Rattle.mesh.specs.Rounds.{Walk, loop_at, turns_at, around_at};
 
-use mesh::half::{NONE, next, turn};
+use crate::round::{ByNext, ByTurn, Round};
+use mesh::half::NONE;
 
 // The length of the loop of h, among n edges.
 pub fn loop_length(edges: &[u32], n: usize, h: u32) -> usize
     requires { Walk next_at edges.now n h }
     ensures { result ≡ length (loop_at edges.now n h) }
 {
-    let mut x = h;
-    let mut k = 0;
-    let mut left = 2 * n; // as many as there are halfedges
-    while 0 < left {
-        k += 1;
-        x = next(edges, x);
-        if x == h {
-            return k;
-        }
-        left -= 1;
-    }
-    k
+    Round::<ByNext>::new(edges, n, h).count()
 }
 
 // The length of the turn from h.
@@ -31,18 +21,7 @@ pub fn turn_length(edges: &[u32], n: usize, h: u32) -> usize
     requires { Walk turn_at edges.now n h }
     ensures { result ≡ length (turns_at edges.now n h) }
 {
-    let mut x = h;
-    let mut k = 0;
-    let mut left = 2 * n;
-    while 0 < left {
-        k += 1;
-        x = turn(edges, x);
-        if x == h {
-            return k;
-        }
-        left -= 1;
-    }
-    k
+    Round::<ByTurn>::new(edges, n, h).count()
 }
 
 // How many halfedges leave vertex v, by the turn.

@@ -5,3 +5,4 @@
 pub mod lengths;
 pub mod meets;
 pub mod rims;
+pub mod round;

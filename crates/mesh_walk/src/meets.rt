@@ -1,30 +1,19 @@
-// What loops and turns meet.
+// What loops and turns meet. Edges and their number are handed apart: in a type with `Walk` they would ask callers for it everywhere.
 
 ghost use Rattle.std.specs.Prelude.{◌≡◌, map};
 ghost use Rattle.scope.specs.Lists.{has};
 ghost use Rattle.mesh.specs.Words.{head_at, next_at, turn_at};
 ghost use Rattle.mesh.specs.Rounds.{Walk, loop_at, turns_at};
 
-use mesh::half::{head, next, turn};
+use crate::round::{ByNext, ByTurn, Round};
+use mesh::half::head;
 
 // Whether halfedge k lies on the loop of h, among n edges.
 pub fn on_loop(edges: &[u32], n: usize, h: u32, k: u32) -> bool
     requires { Walk next_at edges.now n h }
     ensures { result ≡ has k (loop_at edges.now n h) }
 {
-    let mut x = h;
-    let mut left = 2 * n;
-    while 0 < left {
-        if x == k {
-            return true;
-        }
-        x = next(edges, x);
-        if x == h {
-            return false;
-        }
-        left -= 1;
-    }
-    false
+    Round::<ByNext>::new(edges, n, h).any(|x| x == k)
 }
 
 // Whether halfedge k lies on the turn from h.
@@ -32,19 +21,7 @@ pub fn on_turn(edges: &[u32], n: usize, h: u32, k: u32) -> bool
     requires { Walk turn_at edges.now n h }
     ensures { result ≡ has k (turns_at edges.now n h) }
 {
-    let mut x = h;
-    let mut left = 2 * n;
-    while 0 < left {
-        if x == k {
-            return true;
-        }
-        x = turn(edges, x);
-        if x == h {
-            return false;
-        }
-        left -= 1;
-    }
-    false
+    Round::<ByTurn>::new(edges, n, h).any(|x| x == k)
 }
 
 // Whether vertex v is the head of a halfedge on the loop of h.
@@ -52,17 +29,5 @@ pub fn head_on_loop(edges: &[u32], n: usize, h: u32, v: u32) -> bool
     requires { Walk next_at edges.now n h }
     ensures { result ≡ has v (map (head_at edges.now) (loop_at edges.now n h)) }
 {
-    let mut x = h;
-    let mut left = 2 * n;
-    while 0 < left {
-        if head(edges, x) == v {
-            return true;
-        }
-        x = next(edges, x);
-        if x == h {
-            return false;
-        }
-        left -= 1;
-    }
-    false
+    Round::<ByNext>::new(edges, n, h).any(|x| head(edges, x) == v)
 }

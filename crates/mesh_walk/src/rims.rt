@@ -4,56 +4,26 @@ ghost use Rattle.std.specs.Prelude.{◌≡◌, ◌≢◌, length, set, ◌<◌};
 ghost use Rattle.scope.specs.Links.{NONE};
 ghost use Rattle.mesh.specs.Words.{next_at, turn_at, link_at};
 ghost use Rattle.mesh.specs.Rounds.{Walk, loop_at, turns_at, rim_at, side_at, first_of};
-ghost use Rattle.mesh_walk.specs.Adjust.{found, adjusted};
+ghost use Rattle.mesh_walk.specs.Adjust.{adjusted};
 
-use mesh::half::{NONE, next, partner, turn};
+use crate::round::{ByNext, ByTurn, Round};
+use mesh::half::{NONE, partner};
 use mesh::rim::rim;
 
-// A halfedge that is looked for.
-#[derive(Clone, Copy)]
-pub enum Found {
-    At(u32),
-    Nowhere,
-}
-
 // The first rim halfedge on the turn from h, among n edges.
-pub fn rim_out(edges: &[u32], n: usize, h: u32) -> Found
+pub fn rim_out(edges: &[u32], n: usize, h: u32) -> Option<u32>
     requires { Walk turn_at edges.now n h }
-    ensures { result ≡ found (first_of (rim_at edges.now) (turns_at edges.now n h)) }
+    ensures { result ≡ first_of (rim_at edges.now) (turns_at edges.now n h) }
 {
-    let mut x = h;
-    let mut left = 2 * n;
-    while 0 < left {
-        if rim(edges, x) {
-            return Found::At(x);
-        }
-        x = turn(edges, x);
-        if x == h {
-            return Found::Nowhere;
-        }
-        left -= 1;
-    }
-    Found::Nowhere
+    Round::<ByTurn>::new(edges, n, h).find(|x| rim(edges, *x))
 }
 
 // The first halfedge on the loop of h whose partner is a rim halfedge.
-pub fn rim_side(edges: &[u32], n: usize, h: u32) -> Found
+pub fn rim_side(edges: &[u32], n: usize, h: u32) -> Option<u32>
     requires { Walk next_at edges.now n h }
-    ensures { result ≡ found (first_of (side_at edges.now) (loop_at edges.now n h)) }
+    ensures { result ≡ first_of (side_at edges.now) (loop_at edges.now n h) }
 {
-    let mut x = h;
-    let mut left = 2 * n;
-    while 0 < left {
-        if rim(edges, partner(x)) {
-            return Found::At(x);
-        }
-        x = next(edges, x);
-        if x == h {
-            return Found::Nowhere;
-        }
-        left -= 1;
-    }
-    Found::Nowhere
+    Round::<ByNext>::new(edges, n, h).find(|x| rim(edges, partner(*x)))
 }
 
 // Vertex v names the rim halfedge that leaves it, if there is one; else its link stays.
@@ -64,11 +34,8 @@ pub fn adjust(outs: &mut [u32], edges: &[u32], n: usize, v: u32)
 {
     let h = outs[v as usize];
     if h != NONE {
-        match rim_out(edges, n, h) {
-            Found::At(r) => {
-                outs[v as usize] = r;
-            }
-            Found::Nowhere => {}
+        if let Some(r) = rim_out(edges, n, h) {
+            outs[v as usize] = r;
         }
     }
 }

@@ -3,7 +3,7 @@
 use mathlib.Core.Path.{◌≡◌, refl}
 use mathlib.Core.Bool.{Bool, true, false, not, ◌&&◌}
 use mathlib.Core.List.{List, [], ◌∷◌, ◌++◌, map}
-use mathlib.Core.Option.{Option, none, some}
+use Rattle.std.specs.Prelude.{Option, None, Some}
 use Prim.Native.Nat.{ℕ, zero, suc, ◌+◌, ◌*◌, ◌/◌}
 use native.Mathlib.Omega.{arith}
 use lib.ListN.{length}
@@ -36,12 +36,12 @@ either P true h k = h
 either P false h k = k
 
 -- ---- sqrt3: the two cases of a face's answer
-pub answer-centre : (flag : Bool) (m : Links) (ps : List Float) (f : ℕ) → if flag (rim_side f m) none ≡ none →
+pub answer-centre : (flag : Bool) (m : Links) (ps : List Float) (f : ℕ) → if flag (rim_side f m) None ≡ None →
     sqrt_answer flag m ps f ≡ Centre (face_point m ps f)
 unfolding sqrt_answer
 answer-centre flag m ps f e = rw (e, sqrt_answer)
 
-pub answer-pair : (flag : Bool) (m : Links) (ps : List Float) (f h : ℕ) → if flag (rim_side f m) none ≡ some h →
+pub answer-pair : (flag : Bool) (m : Links) (ps : List Float) (f h : ℕ) → if flag (rim_side f m) None ≡ Some h →
     sqrt_answer flag m ps f ≡ sqrt_pair (point_at ps (head m (next m (partner h)))) (point_at ps (head m (partner h))) (point_at ps (tail m (partner h))) (point_at ps (tail m (prev m (partner h))))
 unfolding sqrt_answer
 answer-pair flag m ps f h e = rw (e, sqrt_answer)
@@ -155,11 +155,11 @@ module _ (R S T : Float → Float → Type 0) (r : Through R) (s : Through S) (t
         (inner-each sqrt_rows v)
 
     answer-each : (flag : Bool) (f : ℕ) → EachAnswer R S T (sqrt_answer flag m ps f) (sqrt_answer flag m qs f)
-    answer-each flag f = go (if flag (rim_side f m) none) refl
+    answer-each flag f = go (if flag (rim_side f m) None) refl
       where
-        go : (o : Option ℕ) → if flag (rim_side f m) none ≡ o → EachAnswer R S T (sqrt_answer flag m ps f) (sqrt_answer flag m qs f)
-        go none e = rw (answer-centre flag m ps f e, answer-centre flag m qs f e) (face-each f)
-        go (some h) e =
+        go : (o : Option ℕ) → if flag (rim_side f m) None ≡ o → EachAnswer R S T (sqrt_answer flag m ps f) (sqrt_answer flag m qs f)
+        go None e = rw (answer-centre flag m ps f e, answer-centre flag m qs f e) (face-each f)
+        go (Some h) e =
             rw (answer-pair flag m ps f h e, answer-pair flag m qs f h e) (sqrt-pair-each R S T r s t (all.at _) (all.at _) (all.at _) (all.at _))
 
     given-each : (a b : FacePoints) → EachAnswer R S T a b → Pairs R S T (given a) (given b)

@@ -1,20 +1,21 @@
 -- Catmull-Clark's rules by cases, as the code takes them; and they see no more of the face points and edge points at hand than the links reach. Assumes nothing.
-use Prim.Native.Nat.{ℕ, zero, suc, ◌+◌, ◌*◌, ◌/◌, ◌≤◌, ◌<◌}
-use mathlib.Core.Path.{◌≡◌, refl, ap, ◌∙◌}
+use Prim.Native.Nat.{ℕ, suc, ◌+◌, ◌*◌, ◌/◌, ◌≤◌, ◌<◌}
+use mathlib.Core.Path.{◌≡◌, refl, sym, ap, ◌∙◌}
 use mathlib.Core.Bool.{Bool, true, false, not, ◌&&◌, ◌||◌}
 use mathlib.Core.Logic.{◌≢◌}
-use mathlib.Core.List.{List, [], ◌∷◌, map}
+use mathlib.Core.List.{List, [], ◌∷◌, ◌++◌, map, map-append, append-nil}
 use native.Mathlib.Numerals.{add-one}
 use native.Mathlib.Omega.{arith}
 use lib.Dec.{eqb}
 use lib.ListN.{length}
 use lib.Ieee.{Float}
+use Rattle.std.proofs.lemmas.List.{length-map}
 use borrow.Author.Tests.{eqb-false, eq-eqb, ne_eqb}
 use Rattle.scope.specs.declared.records.Point.{Point}
 use Rattle.scope.specs.declared.records.Counts.{Counts}
 use Rattle.scope.specs.Point.{add_p, over_p, zero_p}
 use Rattle.scope.specs.Rules.{cc_edge, cc_inner, middle}
-use Rattle.scope.specs.Lists.{if, only, round, over}
+use Rattle.scope.specs.Lists.{if, only, over}
 use Rattle.scope.specs.Links.{Links, NONE, loop, around}
 use Rattle.scope.specs.Points.{point_at, plus, number, heads, face_point, catmull_edge, catmull_rim, catmull_inner, catmull_vertex, catmull_points}
 use Rattle.mesh.specs.Words.{face_at, link_at, turn_at}
@@ -23,10 +24,10 @@ use Rattle.mesh.proofs.PartnerLaws.{partner-lt}
 use Rattle.points_catmull.specs.declared.sums.Sum.{Sum}
 use Rattle.points_catmull.specs.declared.catmull.Ring.{Ring}
 use Rattle.points_catmull.specs.Place.{place, made}
-use Rattle.points_catmull.specs.Sums.{Halves, Outs, Inside, mesh_of, slot, head_point, summed}
+use Rattle.points_catmull.specs.Sums.{Halves, Outs, Inside, mesh_of, slot, head_point, summed, more}
 use Rattle.points_catmull.specs.Catmull.{edge_by, rim_by, inner_by, vertex_by, ring_of, joined}
-use Rattle.points_catmull.proofs.PlaceLaws.{length-each, length-laid, made-same, made-read, laid-behind, whole}
-use Rattle.points_catmull.proofs.SumLaws.{Joins}
+use Rattle.points_catmull.proofs.PlaceLaws.{length-laid, made-same, made-read, laid-behind, whole}
+use Rattle.points_catmull.proofs.SumLaws.{Every, end, also, every, weaken, plus-push, summed-push, summed-more, summed-count}
 
 -- ---- an edge without rim halfedge has two faces
 neither : (a b : Bool) → a || b ≡ false → (a ≡ false) × (b ≡ false)
@@ -79,18 +80,29 @@ edge_same c outs es fs ps hs f g h update e l =
 abbrev pub rim_points : (ℕ → Point) → List ℕ → List ℕ → List Point
 rim_points g es l = map g (only (rim_edge_at es) (map (λ h. h / 2) l))
 
-pub joins-rim : (g : ℕ → Point) (es : List ℕ) {s t : Sum} {k : ℕ} → t ≡ joined (rim_edge_at es (k / 2)) s (g (k / 2)) →
-    Joins (rim_points g es) s.total t.total s.count t.count k
-unfolding joined only plus
-joins-rim g es {s} {t} {k} e = go (rim_edge_at es (k / 2)) refl
+only-push : (test : ℕ → Bool) (l : List ℕ) (x : ℕ) → only test (l ++ x ∷ []) ≡ only test l ++ if (test x) (x ∷ []) []
+unfolding only
+only-push test [] x = refl
+only-push test (y ∷ l) x = go (test y) (only-push test l x)
   where
-    go : (b : Bool) → rim_edge_at es (k / 2) ≡ b → Joins (rim_points g es) s.total t.total s.count t.count k
-    go true r =
-        let q : t ≡ record { total = add_p s.total (g (k / 2)); count = s.count + 1 } = e ∙ rw r in
-        record { sum = λ rest. rw (r, q); count = λ rest. rw (r, q) (omega arith) }
-    go false r =
-        let q : t ≡ s = e ∙ rw r in
-        record { sum = λ rest. rw (r, q); count = λ rest. rw (r, q) }
+    go : (b : Bool) → only test (l ++ x ∷ []) ≡ only test l ++ if (test x) (x ∷ []) [] → if b (y ∷ only test (l ++ x ∷ [])) (only test (l ++ x ∷ [])) ≡ if b (y ∷ only test l) (only test l) ++ if (test x) (x ∷ []) []
+    go true e = ap (λ (r : List ℕ). y ∷ r) e
+    go false e = e
+
+rim_push : (g : ℕ → Point) (es xs : List ℕ) (k : ℕ) → rim_points g es (xs ++ k ∷ []) ≡ rim_points g es xs ++ map g (if (rim_edge_at es (k / 2)) (k / 2 ∷ []) [])
+rim_push g es xs k =
+    ap (λ (l : List ℕ). map g (only (rim_edge_at es) l)) (map-append (λ h. h / 2) xs (k ∷ []))
+    ∙ ap (map g) (only-push (rim_edge_at es) (map (λ h. h / 2) xs) (k / 2))
+    ∙ map-append g (only (rim_edge_at es) (map (λ h. h / 2) xs)) (if (rim_edge_at es (k / 2)) (k / 2 ∷ []) [])
+
+pub joins-rim : (g : ℕ → Point) (es : List ℕ) (p : Point) (xs : List ℕ) (k : ℕ) {s t : Sum} → s ≡ summed p (rim_points g es xs) → t ≡ joined (rim_edge_at es (k / 2)) s (g (k / 2)) →
+    t ≡ summed p (rim_points g es (xs ++ k ∷ []))
+unfolding joined
+joins-rim g es p xs k {s} {t} hs e = rw (rim_push g es xs k) (go (rim_edge_at es (k / 2)) e)
+  where
+    go : (b : Bool) → t ≡ joined b s (g (k / 2)) → t ≡ summed p (rim_points g es xs ++ map g (if b (k / 2 ∷ []) []))
+    go true q = q ∙ rw hs (summed-push p (rim_points g es xs) (g (k / 2)))
+    go false q = q ∙ hs ∙ ap (summed p) (sym (append-nil (rim_points g es xs)))
 
 pub joined-yes : {b : Bool} (s : Sum) (p : Point) {q : Point} → b ≡ true → q ≡ add_p s.total p → record { total = q; count = s.count + 1 } ≡ joined b s p
 unfolding joined
@@ -100,11 +112,6 @@ pub joined-no : {b : Bool} (s : Sum) (p : Point) → b ≡ false → s ≡ joine
 unfolding joined
 joined-no s p t = rw t
 
-pub joined-count : (s : Sum) (p : Point) (b : Bool) {t : Sum} → t ≡ joined b s p → t.count ≤ s.count + 1
-unfolding joined
-joined-count s p true e = rw e (omega arith)
-joined-count s p false e = rw e (omega arith)
-
 more-rim : (g : ℕ → Point) (es : List ℕ) (x : ℕ) (l : List ℕ) → length (rim_points g es (x ∷ l)) ≤ suc (length (rim_points g es l))
 unfolding only
 more-rim g es x l = go (rim_edge_at es (x / 2)) refl
@@ -113,28 +120,32 @@ more-rim g es x l = go (rim_edge_at es (x / 2)) refl
     go true r = rw r (omega arith)
     go false r = rw r (omega arith)
 
-pub few-rim : (g : ℕ → Point) (es : List ℕ) (s : ℕ) (step : ℕ → ℕ) (n x : ℕ) → length (rim_points g es (round s step n x)) ≤ n
-unfolding round only
-few-rim g es s step zero x = omega arith
-few-rim g es s step (suc n) x = go (eqb (step x) s) (few-rim g es s step n (step x))
-  where
-    go : (b : Bool) → length (rim_points g es (round s step n (step x))) ≤ n → length (rim_points g es (x ∷ if b [] (round s step n (step x)))) ≤ suc n
-    go true h = let m = more-rim g es x [] in omega arith
-    go false h = let m = more-rim g es x (round s step n (step x)) in omega arith
+few-rim : (g : ℕ → Point) (es l : List ℕ) → length (rim_points g es l) ≤ length l
+unfolding only
+few-rim g es [] = omega arith
+few-rim g es (x ∷ l) = let m = more-rim g es x l in let r = few-rim g es l in omega arith
 
-pub few-sum : (g : ℕ → Point) (es : List ℕ) (n h : ℕ) (p : Point) {s : Sum} → s ≡ summed p (rim_points g es (turns_at es n h)) → s.count ≤ 2 * n
+pub few-sum : (g : ℕ → Point) (es l : List ℕ) (p : Point) {s : Sum} → s ≡ summed p (rim_points g es l) → s.count ≤ length l
 unfolding summed
-few-sum g es n h p e = rw e (few-rim g es h (turn_at es) (2 * n) h)
+few-sum g es l p e = rw e (few-rim g es l)
 
 -- ---- both sums around an interior vertex
-pub ring-is : (f g : ℕ → Point) (hs : List ℕ) {a b : Point} {n : ℕ} → record { total = a; count = n } ≡ summed zero_p (map f hs) → record { total = b; count = n } ≡ summed zero_p (map g hs) →
-    record { faces = a; heads = b; count = n } ≡ ring_of f g hs
-unfolding summed ring_of
-ring-is f g hs {a} {b} {n} x y =
-    let p : a ≡ plus zero_p (map f hs) = ap (λ (s : Sum). s.total) x in
-    let q : b ≡ plus zero_p (map g hs) = ap (λ (s : Sum). s.total) y in
-    let r : n ≡ length hs = ap (λ (s : Sum). s.count) x ∙ length-each f hs in
-    rw (p, q, r)
+pub ring-none : (f g : ℕ → Point) → record { faces = zero_p; heads = record { total = zero_p; count = 0 } } ≡ ring_of f g []
+unfolding ring_of summed plus
+ring-none f g = refl
+
+pub ring-more : (f g : ℕ → Point) (xs : List ℕ) (k : ℕ) {a a' x y : Point} {s s' : Sum} → record { faces = a; heads = s } ≡ ring_of f g xs → x ≡ f k → y ≡ g k → a' ≡ add_p a x → s' ≡ more s y →
+    record { faces = a'; heads = s' } ≡ ring_of f g (xs ++ k ∷ [])
+unfolding ring_of
+ring-more f g xs k {a} {a'} {x} {y} {s} {s'} e hx hy ha hs =
+    let p : a ≡ plus zero_p (map f xs) = ap (λ (r : Ring). r.faces) e in
+    let q : s ≡ summed zero_p (map g xs) = ap (λ (r : Ring). r.heads) e in
+    let m : s' ≡ summed zero_p (map g (xs ++ k ∷ [])) = summed-more zero_p g xs k q hy hs in
+    rw (m, ha, hx, p, map-append f xs (k ∷ []), plus-push zero_p (map f xs) (f k))
+
+pub ring-count : (f g : ℕ → Point) (xs : List ℕ) {r : Ring} → r ≡ ring_of f g xs → r.heads.count ≡ length xs
+unfolding ring_of
+ring-count f g xs {r} e = summed-count zero_p g xs (ap (λ (r : Ring). r.heads) e)
 
 -- ---- a vertex's point
 module _ (c : Counts) (outs es : List ℕ) (ps : List Float) (f g : ℕ → Point) (v : ℕ) {update : Bool} {p : Point} (hp : p ≡ point_at ps v) where
@@ -154,15 +165,15 @@ module _ (c : Counts) (outs es : List ℕ) (ps : List Float) (f g : ℕ → Poin
         let no : eqb (link_at outs v) NONE ≡ false = ne_eqb (link_at outs v) NONE (λ z. ne (o ∙ z)) in
         let rm : rim_at es (link_at outs v) ≡ true = rw o at r in
         let l = only (rim_edge_at es) (map (λ h. h / 2) (turns_at es c.e (link_at outs v))) in
-        d ∙ rw (u, no, rm, e, o, hp, length-each g l, add-one (length l))
+        d ∙ rw (u, no, rm, e, o, hp, length-map l g, add-one (length l))
 
-    pub vertex-inner : {q : Point} {r : Ring} → rim_at es h ≡ false → r ≡ ring_of (λ k. f (face_at es k)) (head_point es ps) (turns_at es c.e h) → q ≡ cc_inner r.faces r.heads p r.count →
+    pub vertex-inner : {q : Point} {r : Ring} → rim_at es h ≡ false → r ≡ ring_of (λ k. f (face_at es k)) (head_point es ps) (turns_at es c.e h) → q ≡ cc_inner r.faces r.heads.total p r.heads.count →
         q ≡ vertex_by f g update (mesh_of c outs es []) ps v
-    unfolding vertex_by inner_by around heads ring_of
+    unfolding vertex_by inner_by around heads ring_of summed
     vertex-inner n e d =
         let no : eqb (link_at outs v) NONE ≡ false = ne_eqb (link_at outs v) NONE (λ z. ne (o ∙ z)) in
         let rm : rim_at es (link_at outs v) ≡ false = rw o at n in
-        d ∙ rw (u, no, rm, e, o, hp)
+        d ∙ rw (u, no, rm, e, o, hp, length-map (turns_at es c.e (link_at outs v)) (head_point es ps))
 
 pub out-lt : (c : Counts) (outs es : List ℕ) → Outs c outs es → (v h : ℕ) → v < c.v → h ≡ link_at outs v → h ≢ NONE → h < 2 * c.e
 out-lt c outs es o v h l e ne = rw e (o.out_in v l (λ z. ne (e ∙ z)))
@@ -175,19 +186,6 @@ not-rim c outs es o v h l e ne r =
     rw e (o.inner v l (rw (no, rm)))
 
 -- ---- what a walk meets
-data Every (P : ℕ → Type 0) : List ℕ → Type 0 where
-  end : Every P []
-  also : {x : ℕ} {l : List ℕ} → P x → Every P l → Every P (x ∷ l)
-
-unless : {P : ℕ → Type 0} (b : Bool) {x : ℕ} {l : List ℕ} → P x → Every P l → Every P (x ∷ if b [] l)
-unless true p r = also p end
-unless false p r = also p r
-
-every : (P : ℕ → Type 0) (s : ℕ) (step : ℕ → ℕ) → ((k : ℕ) → P k → P (step k)) → (n x : ℕ) → P x → Every P (round s step n x)
-unfolding round
-every P s step on zero x p = end
-every P s step on (suc n) x p = unless (eqb (step x) s) p (every P s step on n (step x) (on x p))
-
 map_same : {P : ℕ → Type 0} (f g : ℕ → Point) → ((k : ℕ) → P k → f k ≡ g k) → {l : List ℕ} → Every P l → map f l ≡ map g l
 map_same f g e end = refl
 map_same f g e (also {x} p r) = rw (e x p, map_same f g e r)
@@ -212,7 +210,7 @@ module _ (c : Counts) (es : List ℕ) (hs : Halves c es) where
   turn_in : (k : ℕ) → k < 2 * c.e → turn_at es k < 2 * c.e
   turn_in k l = partner-lt _ c.e (hs.prev_in k l)
 
-  met : (h : ℕ) → h < 2 * c.e → Every (λ k. k < 2 * c.e) (turns_at es c.e h)
+  pub met : (h : ℕ) → h < 2 * c.e → Every (λ k. k < 2 * c.e) (turns_at es c.e h)
   met h l = every (λ k. k < 2 * c.e) h (turn_at es) turn_in (2 * c.e) h l
 
   pub inside_on : {h : ℕ} → Inside es h → Inside es (turn_at es h)
@@ -223,12 +221,8 @@ module _ (c : Counts) (es : List ℕ) (hs : Halves c es) where
   unfolding after
   inside-here i = i.faced 0
 
-  faced : (h : ℕ) → h < 2 * c.e → Inside es h → Every (λ k. face_at es k < c.f) (turns_at es c.e h)
-  faced h l i = weaken (every (λ k. (k < 2 * c.e) × Inside es k) h (turn_at es) (λ k p. (turn_in k p.0, inside_on p.1)) (2 * c.e) h (l, i))
-    where
-      weaken : {l : List ℕ} → Every (λ k. (k < 2 * c.e) × Inside es k) l → Every (λ k. face_at es k < c.f) l
-      weaken end = end
-      weaken (also {x} p r) = also (faced-in c es hs x p.0 (inside-here p.1)) (weaken r)
+  pub faced : (h : ℕ) → h < 2 * c.e → Inside es h → Every (λ k. (k < 2 * c.e) × (face_at es k < c.f)) (turns_at es c.e h)
+  faced h l i = weaken (λ k p. (p.0, faced-in c es hs k p.0 (inside-here p.1))) (every (λ k. (k < 2 * c.e) × Inside es k) h (turn_at es) (λ k p. (turn_in k p.0, inside_on p.1)) (2 * c.e) h (l, i))
 
 either_same : {A : Type 0} (b : Bool) (x y x' y' : A) → (b ≡ true → x ≡ x') → (b ≡ false → y ≡ y') → if b x y ≡ if b x' y'
 either_same true x y x' y' h k = h refl
@@ -252,7 +246,7 @@ module _ (c : Counts) (outs es fs : List ℕ) (ps : List Float) (hs : Halves c e
   inner-same v l r =
       let n = neither (eqb (link_at outs v) NONE) (rim_at es (link_at outs v)) r in
       let m = faced c es hs (link_at outs v) (os.out_in v l (eqb-false (link_at outs v) NONE n.0)) (os.inner v l r) in
-      rw (n.0, map_same (λ h. f (face_at es h)) (λ h. f' (face_at es h)) (λ k b. ff (face_at es k) b) m)
+      rw (n.0, map_same (λ h. f (face_at es h)) (λ h. f' (face_at es h)) (λ k b. ff (face_at es k) b.1) m)
 
   pub vertex-same : (update : Bool) → (update ≡ true → (i : ℕ) → i < c.e → g i ≡ g' i) → (v : ℕ) → v < c.v →
       vertex_by f g update (mesh_of c outs es []) ps v ≡ vertex_by f' g' update (mesh_of c outs es fs) ps v

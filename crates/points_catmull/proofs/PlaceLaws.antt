@@ -6,6 +6,7 @@ use native.Mathlib.Nat.{add-zero, zero-add}
 use native.Mathlib.Omega.{arith}
 use lib.ListN.{length, get_or, set, length-append}
 use lib.Ieee.{Float, nan}
+use Rattle.std.proofs.lemmas.List.{length-map}
 use Rattle.scope.specs.declared.records.Point.{Point}
 use Rattle.scope.specs.Lists.{over, range}
 use Rattle.scope.specs.Points.{point_at, flat}
@@ -133,20 +134,16 @@ unfolding range
 length-range i zero = refl
 length-range i (suc n) = ap suc (length-range (suc i) n)
 
-pub length-each : (f : ℕ → Point) (l : List ℕ) → length (map f l) ≡ length l
-length-each f [] = refl
-length-each f (x ∷ l) = ap suc (length-each f l)
-
 pub length-made : (f : ℕ → Point) (n : ℕ) → length (made f n) ≡ 3 * n
 unfolding made
-length-made f n = length-flat _ ∙ rw (length-each f (range 0 n), length-range 0 n)
+length-made f n = length-flat _ ∙ rw (length-map (range 0 n) f, length-range 0 n)
 
 pub made-next : (f : ℕ → Point) (n : ℕ) (s : ℕ) (w : List Float) (p : Point) → p ≡ f n → 3 * (s + n) + 2 < length w →
     put_point (place (3 * s) (made f n) w) (s + n) p ≡ place (3 * s) (made f (n + 1)) w
 unfolding made
 made-next f n s w p e h =
     let k : n + 1 ≡ suc n = omega arith in
-    let l : length (map f (range 0 n)) ≡ n = length-each f (range 0 n) ∙ length-range 0 n in
+    let l : length (map f (range 0 n)) ≡ n = length-map (range 0 n) f ∙ length-range 0 n in
     let g : map f (range 0 (suc n)) ≡ map f (range 0 n) ++ f n ∷ [] =
     ap (map f) (range-next 0 n) ∙ map-append f (range 0 n) ((0 + n) ∷ []) ∙ rw (zero-add n) in
     rw (k, g, e) (flat-next s (map f (range 0 n)) w (s + n) (f n) (omega arith) h)
@@ -162,6 +159,15 @@ made_none f i w = sym (place-nil i w)
 
 pub length-laid : {l : List Float} (i : ℕ) (g w : List Float) → l ≡ place i g w → length l ≡ length w
 length-laid i g w e = ap length e ∙ length-place i g w
+
+-- a loop that lays them one by one
+pub laid-next : (f : ℕ → Point) (s : ℕ) (w : List Float) {n : ℕ} {l l' : List Float} {p : Point} → l ≡ place (3 * s) (made f n) w → p ≡ f n → l' ≡ put_point l (s + n) p → 3 * (s + n) + 2 < length w →
+    l' ≡ place (3 * s) (made f (n + 1)) w
+laid-next f s w {n} {l} {l'} {p} e hp h room = h ∙ rw e (made-next f n s w p hp room)
+
+pub laid-first : (f : ℕ → Point) (w : List Float) {n : ℕ} {l l' : List Float} {p : Point} → l ≡ place 0 (made f n) w → p ≡ f n → l' ≡ put_point l n p → 3 * n + 2 < length w →
+    l' ≡ place 0 (made f (n + 1)) w
+laid-first f w {n} {l} {l'} {p} e hp h room = h ∙ rw e (made-first f n w p hp room)
 
 -- the k-th of them is read in its place
 flat-at : (f : ℕ → Point) (i n k : ℕ) → k < n → point_at (flat (map f (range i n))) k ≡ f (i + k)
@@ -179,7 +185,7 @@ pub made-read : (f : ℕ → Point) (n s k : ℕ) (w : List Float) → k < n →
 unfolding made
 made-read f n s k w l h =
     let g = flat (map f (range 0 n)) in
-    let len : length g ≡ 3 * n = length-flat _ ∙ rw (length-each f (range 0 n), length-range 0 n) in
+    let len : length g ≡ 3 * n = length-flat _ ∙ rw (length-map (range 0 n) f, length-range 0 n) in
     let x : 3 * (s + k) ≡ 3 * s + 3 * k = omega arith in
     let y : 3 * s + 3 * k + 1 ≡ 3 * s + (3 * k + 1) = omega arith in
     let z : 3 * s + 3 * k + 2 ≡ 3 * s + (3 * k + 2) = omega arith in

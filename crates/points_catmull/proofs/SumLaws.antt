@@ -1,79 +1,99 @@
--- A sum that is carried around a walk: what is summed so far, with the rest of the walk, is the whole sum. Assumes nothing.
-use Prim.Native.Nat.{ℕ, ◌+◌, ◌-◌, ◌<◌}
-use mathlib.Core.Path.{◌≡◌, refl, sym, ap, ◌∙◌}
-use mathlib.Core.Logic.{◌≢◌}
-use mathlib.Core.List.{List, [], ◌∷◌, map}
-use native.Mathlib.Nat.{zero-add, add-zero}
+-- Sums over a walk: what the loop that runs it meets, one point more, and the whole. Assumes nothing.
+use Prim.Native.Nat.{ℕ, zero, suc, ◌*◌, ◌≤◌, ◌<◌}
+use mathlib.Core.Path.{◌≡◌, refl, sym, ap, subst, ◌∙◌}
+use mathlib.Core.Bool.{Bool, true, false}
+use mathlib.Core.List.{List, [], ◌∷◌, ◌++◌, map, map-append}
+use Rattle.std.specs.Prelude.{Option, Some, None}
+use Rattle.std.specs.Iterator.{Yields, YieldsFirst}
+use Rattle.std.proofs.lemmas.Iterator.Consumers.{YieldsList-from_first, YieldsList-turn, YieldsList-end}
+use Rattle.std.proofs.lemmas.List.{length-map, map-id}
 use native.Mathlib.Omega.{arith}
-use lib.ListN.{length}
-use Rattle.scope.specs.declared.records.Point.{Point}
+use lib.Dec.{eqb}
+use lib.ListN.{length, get_or, length-append}
 use lib.Ieee.{Float}
+use Rattle.scope.specs.declared.records.Point.{Point}
 use Rattle.scope.specs.declared.records.Counts.{Counts}
 use Rattle.scope.specs.Links.{loop}
 use Rattle.scope.specs.Point.{add_p, over_p, zero_p}
 use Rattle.scope.specs.Points.{plus, number, heads, face_point}
+use Rattle.scope.specs.Lists.{if, round}
 use Rattle.mesh.specs.Words.{link_at}
-use Rattle.mesh.specs.Rounds.{loop_at}
-use Rattle.scope.specs.Lists.{round}
-use Rattle.mesh.proofs.RoundLaws.{round-back, round-on}
-use Rattle.points_catmull.proofs.PlaceLaws.{length-each}
+use Rattle.mesh.specs.Rounds.{loop_at, Walk}
+use Rattle.mesh.proofs.RoundLaws.{walk_here, walk-on}
 use Rattle.points_catmull.specs.declared.sums.Sum.{Sum}
-use Rattle.points_catmull.specs.Sums.{summed, head_point, mesh_of}
+use Rattle.points_catmull.specs.Sums.{summed, more, head_point, mesh_of}
 
--- what a function makes of a walk that comes back, or goes on
-by-back : {A : Type 0} (f : List ℕ → A) (step : ℕ → ℕ) {s n x y : ℕ} → 0 < n → y ≡ step x → y ≡ s → f (round s step n x) ≡ f (x ∷ [])
-by-back f step {s} {n} {x} l e b = ap f (round-back s step n x l (sym e ∙ b))
+-- ---- what a walk meets
+pub data Every (P : ℕ → Type 0) : List ℕ → Type 0 where
+  end : Every P []
+  also : {x : ℕ} {l : List ℕ} → P x → Every P l → Every P (x ∷ l)
 
-by-on : {A : Type 0} (f : List ℕ → A) (step : ℕ → ℕ) {s n x y : ℕ} → 0 < n → y ≡ step x → y ≢ s → f (round s step n x) ≡ f (x ∷ round s step (n - 1) y)
-by-on f step {s} {n} {x} l e b = rw e (ap f (round-on s step n x l (λ w. b (e ∙ w))))
+unless : {P : ℕ → Type 0} (b : Bool) {x : ℕ} {l : List ℕ} → P x → Every P l → Every P (x ∷ if b [] l)
+unless true p r = also p end
+unless false p r = also p r
 
--- total of n points, and those that `pick` takes from the rest of the walk from k, make the whole sum of `most` steps from s
-pub record Carried (pick : List ℕ → List Point) (step : ℕ → ℕ) (s most : ℕ) (base total : Point) (n k left : ℕ) : Type 0 where
-  pub sum : plus total (pick (round s step left k)) ≡ plus base (pick (round s step most s))
-  pub count : n + length (pick (round s step left k)) ≡ length (pick (round s step most s))
+-- what holds at the start, and goes on holding by a step
+pub every : (P : ℕ → Type 0) (s : ℕ) (step : ℕ → ℕ) → ((k : ℕ) → P k → P (step k)) → (n x : ℕ) → P x → Every P (round s step n x)
+unfolding round
+every P s step on zero x p = end
+every P s step on (suc n) x p = unless (eqb (step x) s) p (every P s step on n (step x) (on x p))
 
--- what k adds: from n points to n', from a total to q
-pub record Joins (pick : List ℕ → List Point) (total q : Point) (n n' k : ℕ) : Type 0 where
-  pub sum : (rest : List ℕ) → plus total (pick (k ∷ rest)) ≡ plus q (pick rest)
-  pub count : (rest : List ℕ) → n + length (pick (k ∷ rest)) ≡ n' + length (pick rest)
+pub weaken : {P Q : ℕ → Type 0} → ((k : ℕ) → P k → Q k) → {l : List ℕ} → Every P l → Every Q l
+weaken f end = end
+weaken f (also {x} p r) = also (f x p) (weaken f r)
 
--- where every one is taken
-pub joins : (g : ℕ → Point) {total q : Point} {n n' k : ℕ} → q ≡ add_p total (g k) → n' ≡ n + 1 → Joins (map g) total q n n' k
+every-at : {P : ℕ → Type 0} {l : List ℕ} (k d : ℕ) → Every P l → k < length l → P (get_or l k d)
+every-at k d end l = absurd (omega arith)
+every-at zero d (also p r) l = p
+every-at (suc k) d (also p r) l = every-at k d r (omega arith)
+
+pub walked : (step : List ℕ → ℕ → ℕ) (es : List ℕ) (n h : ℕ) → Walk step es n h → Every (λ k. k < 2 * n) (round h (step es) (2 * n) h)
+walked step es n h w = weaken (λ k v. walk_here v) (every (λ k. Walk step es n k) h (step es) (λ k v. walk-on refl v) (2 * n) h w)
+
+pub round-short : (s : ℕ) (step : ℕ → ℕ) (n x : ℕ) → length (round s step n x) ≤ n
+unfolding round
+round-short s step zero x = omega arith
+round-short s step (suc n) x = go (eqb (step x) s) (round-short s step n (step x))
+  where
+    go : (b : Bool) → length (round s step n (step x)) ≤ n → length (x ∷ if b [] (round s step n (step x))) ≤ suc n
+    go true l = omega arith
+    go false l = omega arith
+
+-- ---- a loop over an iterator that has a list left: it began at s, which is i, and has met xs
+module _ {S : Type 0} (rest : S → List ℕ) {i : S} (s t u : S) {all : List ℕ} (xs : List ℕ) (w : s ≡ i) (e : rest i ≡ all) (y : Yields (YieldsFirst rest) s xs t) {r : Option ℕ} (q : YieldsFirst rest t r u) where
+  -- this turn's item is one of the list, which is longer than what was met
+  pub at-turn : {P : ℕ → Type 0} → Every P all → {x : ℕ} → r ≡ Some x → P x × (length xs < length all)
+  at-turn {P} v {x} a =
+      let i = YieldsList-turn (YieldsList-from_first (λ x. x) rest all (ap rest w ∙ e)) xs t y r u x a q in
+      (subst P (sym i.1) (every-at (length xs) x v i.0), i.0)
+
+  -- at the end all were met
+  pub at-end : r ≡ None → xs ≡ all
+  at-end a = sym (map-id xs) ∙ (YieldsList-end (YieldsList-from_first (λ x. x) rest all (ap rest w ∙ e)) xs t y r u a q).0
+
+-- ---- one point more
+pub plus-push : (p : Point) (l : List Point) (x : Point) → plus p (l ++ x ∷ []) ≡ add_p (plus p l) x
 unfolding plus
-joins g {total} {q} {n} {n'} {k} e f = record { sum = λ rest. rw e; count = λ rest. omega arith }
+plus-push p [] x = refl
+plus-push p (y ∷ l) x = plus-push (add_p p y) l x
 
-module _ (pick : List ℕ → List Point) (step : ℕ → ℕ) (s most : ℕ) (base : Point) where
-  pub starts : Carried pick step s most base base 0 s most
-  starts = record { sum = refl; count = zero-add _ }
+pub summed-push : (p : Point) (l : List Point) (x : Point) → more (summed p l) x ≡ summed p (l ++ x ∷ [])
+unfolding summed
+summed-push p l x = rw (plus-push p l x, length-append l (x ∷ []))
 
-  module _ (none : pick [] ≡ []) (total q : Point) (n n' k k' left : ℕ) (l : 0 < left) (c : Carried pick step s most base total n k left)
-      (j : Joins pick total q n n' k) (e : k' ≡ step k) where
-    pub goes_on : k' ≢ s → Carried pick step s most base q n' k' (left - 1)
-    goes_on ne = record {
-      sum = sym (by-on (λ r. plus total (pick r)) step l e ne ∙ j.sum _) ∙ c.sum;
-      count = sym (by-on (λ r. n + length (pick r)) step l e ne ∙ j.count _) ∙ c.count;
-    }
+pub summed-none : (p : Point) → record { total = p; count = 0 } ≡ summed p []
+unfolding summed plus
+summed-none p = refl
 
-    pub is-back : k' ≡ s → record { total = q; count = n' } ≡ summed base (pick (round s step most s))
-    unfolding summed plus
-    is-back b =
-        let t : q ≡ plus base (pick (round s step most s)) =
-        sym (by-back (λ r. plus total (pick r)) step l e b ∙ j.sum [] ∙ rw none) ∙ c.sum in
-        let m : n' ≡ length (pick (round s step most s)) =
-        sym (by-back (λ r. n + length (pick r)) step l e b ∙ j.count [] ∙ rw none (add-zero n')) ∙ c.count in
-        rw (t, m)
+pub summed-more : (p : Point) (g : ℕ → Point) (xs : List ℕ) (x : ℕ) {s t : Sum} {q : Point} → s ≡ summed p (map g xs) → q ≡ g x → t ≡ more s q → t ≡ summed p (map g (xs ++ x ∷ []))
+summed-more p g xs x hs hq ht = ht ∙ rw (hs, hq) (summed-push p (map g xs) (g x)) ∙ ap (summed p) (sym (map-append g xs (x ∷ [])))
 
-  pub runs-out : pick [] ≡ [] → (total : Point) (n k left : ℕ) → left ≡ 0 → Carried pick step s most base total n k left →
-      record { total = total; count = n } ≡ summed base (pick (round s step most s))
-  unfolding summed plus round
-  runs-out none total n k left z c =
-      let t : total ≡ plus base (pick (round s step most s)) = rw (z, none) at c.sum in
-      let m : n + 0 ≡ length (pick (round s step most s)) = rw (z, none) at c.count in
-      let m' : n ≡ length (pick (round s step most s)) = sym (add-zero n) ∙ m in
-      rw (t, m')
+pub summed-count : (p : Point) (g : ℕ → Point) (xs : List ℕ) {s : Sum} → s ≡ summed p (map g xs) → s.count ≡ length xs
+unfolding summed
+summed-count p g xs e = ap (λ (t : Sum). t.count) e ∙ length-map xs g
 
 -- a face's point: the sum from its halfedge, divided by the count
 pub face-point-is : (c : Counts) (es fs : List ℕ) (ps : List Float) {s : Sum} {q : Point} (f h : ℕ) → h ≡ link_at fs f → s ≡ summed zero_p (map (head_point es ps) (loop_at es c.e h)) →
     q ≡ over_p s.total (number s.count) → q ≡ face_point (mesh_of c [] es fs) ps f
 unfolding face_point heads loop summed
-face-point-is c es fs ps f h a b d = d ∙ rw (b, a, length-each (head_point es ps) (loop_at es c.e (link_at fs f)))
+face-point-is c es fs ps f h a b d = d ∙ rw (b, a, length-map (loop_at es c.e (link_at fs f)) (head_point es ps))

@@ -9,6 +9,7 @@ use Rattle.scope.specs.Links.{Links, face, head, rim_edge, rim_vertex, around}
 use Rattle.scope.specs.Points.{point_at, plus, number, heads}
 use Rattle.points_catmull.specs.declared.sums.Sum.{Sum}
 use Rattle.points_catmull.specs.declared.catmull.Ring.{Ring}
+use Rattle.points_catmull.specs.Sums.{summed}
 
 unfoldable pub edge_by : (ℕ → Point) → Bool → Links → List Float → ℕ → Point
 edge_by f update m ps e =
@@ -35,9 +36,9 @@ vertex_by f g update m ps v =
     let moved = if (rim_vertex m v) (rim_by g m ps v) (inner_by f m ps v) in
     if update moved (point_at ps v)
 
--- the sums of face points and of heads over the same halfedges, and how many these are
+-- the sums of face points and of heads over the same halfedges
 unfoldable pub ring_of : (ℕ → Point) → (ℕ → Point) → List ℕ → Ring
-ring_of f g hs = record { faces = plus zero_p (map f hs); heads = plus zero_p (map g hs); count = length hs }
+ring_of f g hs = record { faces = plus zero_p (map f hs); heads = summed zero_p (map g hs) }
 
 -- a sum with one more point, where b says so
 unfoldable pub joined : Bool → Sum → Point → Sum

@@ -1,3 +1,4 @@
 pub mod Place
 pub mod Sums
 pub mod Catmull
+pub mod Cages

@@ -2,6 +2,7 @@
 use Rattle.std.specs.Prelude.{ℕ, ◌+◌, ◌*◌, ◌≤◌, ◌<◌, ◌≡◌, false, ◌≢◌, List, length, Float}
 use Rattle.scope.specs.declared.records.Point.{Point}
 use Rattle.scope.specs.declared.records.Counts.{Counts}
+use Rattle.scope.specs.Point.{add_p}
 use Rattle.scope.specs.Links.{Links, NONE}
 use Rattle.scope.specs.Points.{point_at, plus}
 use Rattle.mesh.specs.Words.{face_at, head_at, next_at, prev_at, turn_at, link_at}
@@ -49,3 +50,7 @@ head_point es ps h = point_at ps (head_at es h)
 -- p plus the others in order, and how many these are
 unfoldable pub summed : Point → List Point → Sum
 summed p l = record { total = plus p l; count = length l }
+
+-- a sum with one point more
+abbrev pub more : Sum → Point → Sum
+more s p = record { total = add_p s.total p; count = s.count + 1 }

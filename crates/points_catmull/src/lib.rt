@@ -2,5 +2,6 @@
 
 #![tactic(auto)]
 
+pub mod cage;
 pub mod catmull;
 pub mod sums;

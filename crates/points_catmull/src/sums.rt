@@ -1,16 +1,20 @@
 // Sums of points around faces and vertices, in the orders of document 01, section 2.
 
-ghost use Rattle.std.specs.Prelude.{◌≡◌, [], map, length, ◌≤◌, ◌<◌, ◌+◌, ◌*◌};
+ghost use Rattle.std.specs.Prelude.{◌≡◌, map, length, ◌≤◌, ◌<◌, ◌+◌, ◌*◌};
 ghost use Rattle.scope.specs.Point.{zero_p};
 ghost use Rattle.scope.specs.Points.{face_point};
-ghost use Rattle.mesh.specs.Rounds.{loop_at, turns_at};
+ghost use Rattle.scope.specs.Lists.{round};
+ghost use Rattle.mesh.specs.Rounds.{Walk};
 ghost use Rattle.points_catmull.specs.Place.{place, made};
-ghost use Rattle.points_catmull.specs.Sums.{Halves, Starts, mesh_of, head_point, summed};
+ghost use Rattle.points_catmull.specs.Cages.{faces_in};
+ghost use Rattle.points_catmull.specs.Sums.{head_point, summed, more};
 
-use mesh::half::{head, next, turn};
+use crate::cage::{Cage, Faces};
+use mesh::half::head;
 use mesh::rows::{load_point, start, store_point};
-use points::{add, mean, zero};
-use scope::records::{Counts, Point};
+use mesh_walk::round::{ByNext, Round, Step};
+use points::{mean, zero};
+use scope::records::Point;
 
 // A sum of points, and how many they are.
 #[derive(Clone, Copy)]
@@ -19,96 +23,71 @@ pub struct Sum {
     pub count: u32,
 }
 
-// A count, as short as the words are.
-pub fn narrow(n: usize) -> u32
-    requires { n ≤ 1048576 }
-    ensures { result ≡ n }
-{
-    n as u32
-}
-
-// Zero plus the heads of the loop from h.
-pub fn loop_heads(edges: &[u32], points: &[f64], c: Counts, h: u32) -> Sum
-    requires halves { Halves c edges.now }
-    requires v_in_bounds { 3 * c.v ≤ length points.now }
-    requires h_bound { h < 2 * c.e }
-    ensures { result ≡ summed zero_p (map (head_point edges.now points.now) (loop_at edges.now c.e h)) }
-{
-    let most = 2 * narrow(c.e);
-    let mut left = most;
-    let mut total = zero();
-    let mut k = h;
-    while left > 0 {
-        total = add(total, load_point(points, head(edges, k)));
-        left -= 1;
-        k = next(edges, k);
-        if k == h {
-            return Sum {
-                total: total,
-                count: most - left,
-            };
+impl Sum {
+    // With one point more.
+    pub fn plus(self, p: Point) -> Sum
+        requires { self.count < 4294967295 }
+        ensures { result ≡ more self p }
+    {
+        Sum {
+            total: self.total + p,
+            count: self.count + 1,
         }
     }
-    Sum {
-        total: total,
-        count: most - left,
-    }
 }
 
-// Zero plus the heads of the halfedges around the vertex that h leaves.
-pub fn turn_heads(edges: &[u32], points: &[f64], c: Counts, h: u32) -> Sum
-    requires halves { Halves c edges.now }
-    requires v_in_bounds { 3 * c.v ≤ length points.now }
-    requires h_bound { h < 2 * c.e }
-    ensures { result ≡ summed zero_p (map (head_point edges.now points.now) (turns_at edges.now c.e h)) }
-{
-    let most = 2 * narrow(c.e);
-    let mut left = most;
-    let mut total = zero();
-    let mut k = h;
-    while left > 0 {
-        total = add(total, load_point(points, head(edges, k)));
-        left -= 1;
-        k = turn(edges, k);
-        if k == h {
-            return Sum {
-                total: total,
-                count: most - left,
-            };
+impl<'a> Cage<'a> {
+    // The point that h leads to.
+    pub fn head_point(&self, h: u32) -> Point
+        requires { h < 2 * self.now.c.e }
+        ensures { result ≡ head_point self.now.edges.now self.now.points.now h }
+    {
+        self.head_in(self.points, h)
+    }
+
+    // The same among other points of the vertices.
+    pub fn head_in(&self, points: &[f64], h: u32) -> Point
+        requires h_bound { h < 2 * self.now.c.e }
+        requires v_in_bounds { 3 * self.now.c.v ≤ length points.now }
+        ensures { result ≡ head_point self.now.edges.now points.now h }
+    {
+        load_point(points, head(self.edges, h))
+    }
+
+    // Zero plus the heads of the halfedges from h on, by the step S.
+    pub fn heads<S: Step>(&self, h: u32) -> Sum
+        requires { Walk S.at self.now.edges.now self.now.c.e h }
+        ensures { result ≡ summed zero_p (map (head_point self.now.edges.now self.now.points.now) (round h (S.at self.now.edges.now) (2 * self.now.c.e) h)) }
+    {
+        let mut s = Sum {
+            total: zero(),
+            count: 0,
+        };
+        for k in Round::<S>::new(self.edges, self.c.e, h) {
+            s = s.plus(self.head_point(k));
         }
-    }
-    Sum {
-        total: total,
-        count: most - left,
+        s
     }
 }
 
-// The point of face f.
-pub fn face_point(edges: &[u32], faces: &[u32], points: &[f64], c: Counts, f: u32) -> Point
-    requires halves { Halves c edges.now }
-    requires starts { Starts c faces.now }
-    requires v_in_bounds { 3 * c.v ≤ length points.now }
-    requires f_lt_f { f < c.f }
-    ensures { result ≡ face_point (mesh_of c [] edges.now faces.now) points.now f }
-{
-    let s = loop_heads(edges, points, c, start(faces, f));
-    mean(s.total, s.count)
-}
+impl<'a> Faces<'a> {
+    // The point of face f.
+    pub fn point(&self, f: u32) -> Point
+        requires { f < self.now.cage.c.f }
+        ensures { result ≡ face_point (faces_in self.now) self.now.cage.points.now f }
+    {
+        let s = self.cage.heads::<ByNext>(start(self.starts, f));
+        mean(s.total, s.count)
+    }
 
-// The points of all faces, each worked out once, behind the places of the vertices and the edges.
-pub fn put_faces(edges: &[u32], faces: &[u32], points: &[f64], c: Counts, work: &mut [f64])
-    requires halves { Halves c edges.now }
-    requires starts { Starts c faces.now }
-    requires v_in_bounds { 3 * c.v ≤ length points.now }
-    requires f_in_bounds { 3 * (c.v + c.e + c.f) ≤ length work.old }
-    ensures { work.new ≡ place (3 * (c.v + c.e)) (made (face_point (mesh_of c [] edges.now faces.now) points.now) c.f) work.old }
-{
-    let at = narrow(c.v) + narrow(c.e);
-    let n = narrow(c.f);
-    let mut f: u32 = 0;
-    while f < n {
-        let p = face_point(edges, faces, points, c, f);
-        store_point(work, at + f, p);
-        f += 1;
+    // The points of all faces, each worked out once, behind the places of the vertices and the edges.
+    pub fn put(&self, work: &mut [f64])
+        requires { 3 * (self.now.cage.c.v + self.now.cage.c.e + self.now.cage.c.f) ≤ length work.old }
+        ensures { work.new ≡ place (3 * (self.now.cage.c.v + self.now.cage.c.e)) (made (face_point (faces_in self.now) self.now.cage.points.now) self.now.cage.c.f) work.old }
+    {
+        let at = (self.cage.c.v + self.cage.c.e) as u32;
+        for f in 0..self.cage.c.f as u32 {
+            store_point(work, at + f, self.point(f));
+        }
     }
 }

@@ -3,7 +3,7 @@ use Prim.Native.Nat.{ℕ, zero, suc, ◌+◌, ◌*◌, ◌≤◌, ◌<◌}
 use mathlib.Core.Path.{◌≡◌, refl, sym, ap, ◌∙◌}
 use mathlib.Core.Bool.{Bool, true, false}
 use mathlib.Core.List.{List, [], ◌∷◌, ◌++◌, append_assoc, append-nil}
-use mathlib.Core.Option.{Option, none, some}
+use Rattle.std.specs.Prelude.{Option, None, Some}
 use native.Mathlib.Nat.{zero-add}
 use native.Mathlib.Numerals.{add-one}
 use native.Mathlib.Omega.{arith}
@@ -21,9 +21,6 @@ use Rattle.scope.specs.Points.{flat, given, face_point, sqrt_answer, answers}
 use Rattle.mesh.specs.Words.{link_at, next_at}
 use Rattle.mesh.specs.Rounds.{loop_at, side_at, first_of}
 use Rattle.mesh.proofs.RoundLaws.{rim-of}
-use Rattle.mesh_walk.specs.declared.rims.Found.{Found}
-use Rattle.mesh_walk.specs.declared.rims.Found.TheVariants.{At, Nowhere}
-use Rattle.mesh_walk.specs.Adjust.{found}
 use Rattle.points.proofs.PassThrough.{answer-centre, answer-pair}
 use Rattle.points_catmull.specs.Place.{place}
 use Rattle.points_catmull.specs.Sums.{Halves, mesh_of}
@@ -35,55 +32,47 @@ side-is : (c : Counts) (es fs : List ℕ) (f : ℕ) → rim_side f (mesh_of c []
 unfolding rim_side loop
 side-is c es fs f = rim-of (mesh_of c [] es fs) (loop_at es c.e (link_at fs f))
 
-found_at : (o : Option ℕ) (h : ℕ) → found o ≡ At h → o ≡ some h
-found_at none h e = absurd (let z : ◌≡◌ {A = ℕ} 0 1 = cc in omega arith)
-found_at (some k) h e = cc
-
-found_nowhere : (o : Option ℕ) → found o ≡ Nowhere → o ≡ none
-found_nowhere none e = refl
-found_nowhere (some k) e = absurd (let z : ◌≡◌ {A = ℕ} 0 1 = cc in omega arith)
-
 -- what is found was met
 module _ (test : ℕ → Bool) (s : ℕ) (step : ℕ → ℕ) (b h : ℕ) (on : (k : ℕ) → k < b → step k < b) where
-  here_or_on : (n x : ℕ) → x < b → (first_of test (round s step n (step x)) ≡ some h → h < b) → first_of test (round s step (suc n) x) ≡ some h → h < b
+  here_or_on : (n x : ℕ) → x < b → (first_of test (round s step n (step x)) ≡ Some h → h < b) → first_of test (round s step (suc n) x) ≡ Some h → h < b
   unfolding round first_of
   here_or_on n x l r e = go (test x) refl
     where
       past : (d : Bool) → eqb (step x) s ≡ d → test x ≡ false → h < b
-      past true q t = let z : none ≡ some h = rw (t, q) at e in absurd (let y : ◌≡◌ {A = ℕ} 0 1 = cc in omega arith)
+      past true q t = let z : None ≡ Some h = rw (t, q) at e in absurd (let y : ◌≡◌ {A = ℕ} 0 1 = cc in omega arith)
       past false q t = r (rw (t, q) at e)
 
       go : (d : Bool) → test x ≡ d → h < b
-      go true t = let z : some x ≡ some h = rw t at e in let y : x ≡ h = cc in omega arith
+      go true t = let z : Some x ≡ Some h = rw t at e in let y : x ≡ h = cc in omega arith
       go false t = past (eqb (step x) s) refl t
 
-  first-met : (n x : ℕ) → x < b → first_of test (round s step n x) ≡ some h → h < b
+  first-met : (n x : ℕ) → x < b → first_of test (round s step n x) ≡ Some h → h < b
   unfolding round first_of
   first-met zero x l e = absurd (let y : ◌≡◌ {A = ℕ} 0 1 = cc in omega arith)
   first-met (suc n) x l e = here_or_on n x l (λ q. first-met n (step x) (on x l) q) e
 
-pub side-lt : (c : Counts) (es : List ℕ) → Halves c es → (s : ℕ) → s < 2 * c.e → (h : ℕ) {r : Found} → r ≡ found (first_of (side_at es) (loop_at es c.e s)) → r ≡ At h → h < 2 * c.e
-side-lt c es hs s l h e a = first-met (side_at es) s (next_at es) (2 * c.e) h (λ k b. hs.next_in k b) (2 * c.e) s l (found_at (first_of (side_at es) (loop_at es c.e s)) h (sym e ∙ a))
+pub side-lt : (c : Counts) (es : List ℕ) → Halves c es → (s : ℕ) → s < 2 * c.e → (h : ℕ) {r : Option ℕ} → r ≡ first_of (side_at es) (loop_at es c.e s) → r ≡ Some h → h < 2 * c.e
+side-lt c es hs s l h e a = first-met (side_at es) s (next_at es) (2 * c.e) h (λ k b. hs.next_in k b) (2 * c.e) s l (sym e ∙ a)
 
 -- ---- a face's answer
 module _ (c : Counts) (es fs : List ℕ) (ps : List Float) (f : ℕ) {flag : Bool} where
   pub answer-still : {p : Point} → flag ≡ false → p ≡ face_point (mesh_of c [] es fs) ps f → Centre p ≡ sqrt_answer flag (mesh_of c [] es fs) ps f
   answer-still u e =
-      let n : if flag (rim_side f (mesh_of c [] es fs)) none ≡ none = rw u in
+      let n : if flag (rim_side f (mesh_of c [] es fs)) None ≡ None = rw u in
       ap Centre e ∙ sym (answer-centre flag (mesh_of c [] es fs) ps f n)
 
-  module _ {s : ℕ} {r : Found} (u : flag ≡ true) (hs : s ≡ link_at fs f) (hr : r ≡ found (first_of (side_at es) (loop_at es c.e s))) where
-    pub answer-none : {p : Point} → r ≡ Nowhere → p ≡ face_point (mesh_of c [] es fs) ps f → Centre p ≡ sqrt_answer flag (mesh_of c [] es fs) ps f
+  module _ {s : ℕ} {r : Option ℕ} (u : flag ≡ true) (hs : s ≡ link_at fs f) (hr : r ≡ first_of (side_at es) (loop_at es c.e s)) where
+    pub answer-none : {p : Point} → r ≡ None → p ≡ face_point (mesh_of c [] es fs) ps f → Centre p ≡ sqrt_answer flag (mesh_of c [] es fs) ps f
     answer-none a e =
-        let o : first_of (side_at es) (loop_at es c.e (link_at fs f)) ≡ none = found_nowhere _ (rw hs at (sym hr ∙ a)) in
-        let n : if flag (rim_side f (mesh_of c [] es fs)) none ≡ none = rw u (side-is c es fs f ∙ o) in
+        let o : first_of (side_at es) (loop_at es c.e (link_at fs f)) ≡ None = rw hs at (sym hr ∙ a) in
+        let n : if flag (rim_side f (mesh_of c [] es fs)) None ≡ None = rw u (side-is c es fs f ∙ o) in
         ap Centre e ∙ sym (answer-centre flag (mesh_of c [] es fs) ps f n)
 
-    pub answer-rim : (h : ℕ) {q : FacePoints} → r ≡ At h → q ≡ pair_on (mesh_of c [] es []) ps h → q ≡ sqrt_answer flag (mesh_of c [] es fs) ps f
+    pub answer-rim : (h : ℕ) {q : FacePoints} → r ≡ Some h → q ≡ pair_on (mesh_of c [] es []) ps h → q ≡ sqrt_answer flag (mesh_of c [] es fs) ps f
     unfolding pair_on
     answer-rim h a e =
-        let o : first_of (side_at es) (loop_at es c.e (link_at fs f)) ≡ some h = found_at _ h (rw hs at (sym hr ∙ a)) in
-        let n : if flag (rim_side f (mesh_of c [] es fs)) none ≡ some h = rw u (side-is c es fs f ∙ o) in
+        let o : first_of (side_at es) (loop_at es c.e (link_at fs f)) ≡ Some h = rw hs at (sym hr ∙ a) in
+        let n : if flag (rim_side f (mesh_of c [] es fs)) None ≡ Some h = rw u (side-is c es fs f ∙ o) in
         e ∙ sym (answer-pair flag (mesh_of c [] es fs) ps f h n)
 
 -- ---- one answer more

@@ -3,7 +3,7 @@ use Prim.Native.Nat.{ℕ, ◌+◌, ◌*◌, ◌<◌}
 use mathlib.Core.Path.{◌≡◌, refl, sym, ap, ◌∙◌}
 use mathlib.Core.Bool.{Bool, true, false}
 use mathlib.Core.List.{List, [], ◌∷◌, ◌++◌, map}
-use mathlib.Core.Option.{Option, none, some}
+use Rattle.std.specs.Prelude.{Option, None, Some, Result, Ok, Err, ⊤}
 use native.Mathlib.Omega.{arith}
 use lib.Dec.{eqb}
 use lib.ListN.{length}
@@ -15,7 +15,7 @@ use Rattle.scope.specs.Lists.{if, over, range}
 use Rattle.scope.specs.Links.{NONE, loop, around}
 use Rattle.scope.specs.Passes.{rim_side}
 use Rattle.scope.specs.Points.{point_at, flat, heads, face_point, on_rim, inner, loop_vertex, loop_edge_point, loop_points, sqrt_vertex, sqrt_answer, answers, sqrt_points}
-use Rattle.scope.specs.Rules.{loop_edge, middle}
+use Rattle.scope.specs.Rules.{loop_edge, loop_rim, middle}
 use Rattle.scope.specs.Schemes.{crowded}
 use Rattle.scope.specs.Weights.{loop_rows, sqrt_rows}
 use Rattle.mesh.specs.Words.{link_at, next_at}
@@ -27,10 +27,6 @@ use Rattle.points_catmull.specs.Place.{place, made}
 use Rattle.points_catmull.specs.Sums.{Outs, mesh_of, head_point}
 use Rattle.points_catmull.proofs.PlaceLaws.{flat_append, made-same, length-made}
 use Rattle.points_weights.specs.Tables.{table}
-use Rattle.points_triangles.specs.declared.vertices.Weightless.{Weightless}
-use Rattle.points_triangles.specs.declared.vertices.Weightless.TheVariants.{Nobody, Vertex}
-use Rattle.points_triangles.specs.declared.inner.RimRule.{RimRule}
-use Rattle.points_triangles.specs.declared.inner.RimRule.TheVariants.{Eighths}
 use Rattle.points_triangles.specs.Vertices.{heavy, weighed, vertex_of}
 use Rattle.points_triangles.specs.Passes.{reached, Smoothed, loop_wants, loop_left, sqrt_left, sqrt_rule}
 use Rattle.points_triangles.proofs.VertexLaws.{light, reached-le, not-heavy, valence-pos, row_is}
@@ -64,7 +60,7 @@ module _ (c : Counts) (outs es fs : List ℕ) (ps : List Float) (os : Outs c out
       (valence-pos c outs es os v l r)
       (not-heavy (mesh_of c outs es []) v r h)
 
-  loop-vertex-is : rows ≡ table loop_rows → vertex_of rows Eighths (mesh_of c outs es []) ps v ≡ loop_vertex true (mesh_of c outs es fs) ps v
+  loop-vertex-is : rows ≡ table loop_rows → vertex_of rows loop_rim (mesh_of c outs es []) ps v ≡ loop_vertex true (mesh_of c outs es fs) ps v
   unfolding vertex_of loop_vertex on_rim
   loop-vertex-is e = either (rim_vertex_at outs es v) _ _ _ _ (λ t. refl) (λ t. inner-is loop_rows e refl t)
 
@@ -115,43 +111,43 @@ module _ (c : Counts) (outs es : List ℕ) (ps w : List Float) (update : Bool) w
 
   -- without the flag old points are kept
   pub loop-kept : {w₁ w₂ : List Float} → update ≡ false → w₁ ≡ place 0 (made (point_at ps) c.v) w → w₂ ≡ place (3 * c.v) (made (loop_edge_point update (mesh_of c [] es []) ps) c.e) w₁ →
-      Smoothed (loop_wants update (mesh_of c outs es [])) Nobody w₂ (over (loop_left (loop_wants update (mesh_of c outs es [])) update (mesh_of c outs es []) ps) w)
+      Smoothed (loop_wants update (mesh_of c outs es [])) (Ok tt) w₂ (over (loop_left (loop_wants update (mesh_of c outs es [])) update (mesh_of c outs es []) ps) w)
   unfolding loop_vertex
   loop-kept u a b =
-      let o : loop_wants update (mesh_of c outs es []) ≡ none = rw u in
+      let o : loop_wants update (mesh_of c outs es []) ≡ None = rw u in
       let k : (k : ℕ) → k < c.v → point_at ps k ≡ loop_vertex update (mesh_of c outs es []) ps k = λ k l. rw u in
       rw o (record { answer = refl; content = loop-whole (point_at ps) a k b })
 
-  module _ (os : Outs c outs es) (rows : List Weights) {r : Weightless} {w₁ : List Float} (u : update ≡ true) (t : rows ≡ table loop_rows)
-      (d : Smoothed (crowded (mesh_of c outs es [])) r w₁ (place 0 (made (vertex_of rows Eighths (mesh_of c outs es []) ps) (reached (crowded (mesh_of c outs es [])) c.v)) w)) where
+  module _ (os : Outs c outs es) (rows : List Weights) {r : Result ⊤ ℕ} {w₁ : List Float} (u : update ≡ true) (t : rows ≡ table loop_rows)
+      (d : Smoothed (crowded (mesh_of c outs es [])) r w₁ (place 0 (made (vertex_of rows loop_rim (mesh_of c outs es []) ps) (reached (crowded (mesh_of c outs es [])) c.v)) w)) where
     wants : loop_wants update (mesh_of c outs es []) ≡ crowded (mesh_of c outs es [])
     wants = rw u
 
-    vertices-are : (o : Option ℕ) → crowded (mesh_of c outs es []) ≡ o → (k : ℕ) → k < reached o c.v → vertex_of rows Eighths (mesh_of c outs es []) ps k ≡ loop_vertex update (mesh_of c outs es []) ps k
+    vertices-are : (o : Option ℕ) → crowded (mesh_of c outs es []) ≡ o → (k : ℕ) → k < reached o c.v → vertex_of rows loop_rim (mesh_of c outs es []) ps k ≡ loop_vertex update (mesh_of c outs es []) ps k
     vertices-are o q k l =
         let b = reached-le (mesh_of c outs es []) o q in
         loop-vertex-is c outs es [] ps os rows k (omega arith) (light (mesh_of c outs es []) o q k l) t ∙ ap (λ (x : Bool). loop_vertex x (mesh_of c outs es []) ps k) (sym u)
 
-    pub loop-moved : {w₂ : List Float} → r ≡ Nobody → w₂ ≡ place (3 * c.v) (made (loop_edge_point update (mesh_of c [] es []) ps) c.e) w₁ →
-        Smoothed (loop_wants update (mesh_of c outs es [])) Nobody w₂ (over (loop_left (loop_wants update (mesh_of c outs es [])) update (mesh_of c outs es []) ps) w)
+    pub loop-moved : {w₂ : List Float} → r ≡ (Ok tt) → w₂ ≡ place (3 * c.v) (made (loop_edge_point update (mesh_of c [] es []) ps) c.e) w₁ →
+        Smoothed (loop_wants update (mesh_of c outs es [])) (Ok tt) w₂ (over (loop_left (loop_wants update (mesh_of c outs es [])) update (mesh_of c outs es []) ps) w)
     loop-moved {w₂} n b = rw wants (go (crowded (mesh_of c outs es [])) refl d)
       where
-        go : (o : Option ℕ) → crowded (mesh_of c outs es []) ≡ o → Smoothed o r w₁ (place 0 (made (vertex_of rows Eighths (mesh_of c outs es []) ps) (reached o c.v)) w) →
-            Smoothed (crowded (mesh_of c outs es [])) Nobody w₂ (over (loop_left (crowded (mesh_of c outs es [])) update (mesh_of c outs es []) ps) w)
-        go none o d' = rw o (record { answer = refl; content = loop-whole (vertex_of rows Eighths (mesh_of c outs es []) ps) d'.content (vertices-are none o) b })
-        go (some v) o d' = let z : Nobody ≡ Vertex v = sym n ∙ d'.answer in absurd (let y : ◌≡◌ {A = ℕ} 0 1 = cc in omega arith)
+        go : (o : Option ℕ) → crowded (mesh_of c outs es []) ≡ o → Smoothed o r w₁ (place 0 (made (vertex_of rows loop_rim (mesh_of c outs es []) ps) (reached o c.v)) w) →
+            Smoothed (crowded (mesh_of c outs es [])) (Ok tt) w₂ (over (loop_left (crowded (mesh_of c outs es [])) update (mesh_of c outs es []) ps) w)
+        go None o d' = rw o (record { answer = refl; content = loop-whole (vertex_of rows loop_rim (mesh_of c outs es []) ps) d'.content (vertices-are None o) b })
+        go (Some v) o d' = let z : Ok tt ≡ Err v = sym n ∙ d'.answer in cc
 
-    pub loop-refused : (v : ℕ) → r ≡ Vertex v →
-        Smoothed (loop_wants update (mesh_of c outs es [])) (Vertex v) w₁ (over (loop_left (loop_wants update (mesh_of c outs es [])) update (mesh_of c outs es []) ps) w)
+    pub loop-refused : (v : ℕ) → r ≡ Err v →
+        Smoothed (loop_wants update (mesh_of c outs es [])) (Err v) w₁ (over (loop_left (loop_wants update (mesh_of c outs es [])) update (mesh_of c outs es []) ps) w)
     loop-refused v n = rw wants (go (crowded (mesh_of c outs es [])) refl d)
       where
-        go : (o : Option ℕ) → crowded (mesh_of c outs es []) ≡ o → Smoothed o r w₁ (place 0 (made (vertex_of rows Eighths (mesh_of c outs es []) ps) (reached o c.v)) w) →
-            Smoothed (crowded (mesh_of c outs es [])) (Vertex v) w₁ (over (loop_left (crowded (mesh_of c outs es [])) update (mesh_of c outs es []) ps) w)
-        go none o d' = let z : Vertex v ≡ Nobody = sym n ∙ d'.answer in absurd (let y : ◌≡◌ {A = ℕ} 0 1 = cc in omega arith)
-        go (some x) o d' =
+        go : (o : Option ℕ) → crowded (mesh_of c outs es []) ≡ o → Smoothed o r w₁ (place 0 (made (vertex_of rows loop_rim (mesh_of c outs es []) ps) (reached o c.v)) w) →
+            Smoothed (crowded (mesh_of c outs es [])) (Err v) w₁ (over (loop_left (crowded (mesh_of c outs es [])) update (mesh_of c outs es []) ps) w)
+        go None o d' = let z : Err v ≡ (Ok tt) = sym n ∙ d'.answer in cc
+        go (Some x) o d' =
             rw o (record {
               answer = sym n ∙ d'.answer;
-              content = d'.content ∙ part (vertex_of rows Eighths (mesh_of c outs es []) ps) (loop_vertex update (mesh_of c outs es []) ps) x w (vertices-are (some x) o);
+              content = d'.content ∙ part (vertex_of rows loop_rim (mesh_of c outs es []) ps) (loop_vertex update (mesh_of c outs es []) ps) x w (vertices-are (Some x) o);
             })
 
 -- ---- sqrt3
@@ -165,50 +161,50 @@ module _ (c : Counts) (outs es fs : List ℕ) (ps w : List Float) (flag : Bool) 
   face-same f = refl
 
   answer-same : (f : ℕ) → sqrt_answer flag (mesh_of c [] es fs) ps f ≡ sqrt_answer flag (mesh_of c outs es fs) ps f
-  answer-same f = go (if flag (rim_side f (mesh_of c outs es fs)) none) refl
+  answer-same f = go (if flag (rim_side f (mesh_of c outs es fs)) None) refl
     where
-      go : (o : Option ℕ) → if flag (rim_side f (mesh_of c outs es fs)) none ≡ o → sqrt_answer flag (mesh_of c [] es fs) ps f ≡ sqrt_answer flag (mesh_of c outs es fs) ps f
-      go none e = answer-centre flag (mesh_of c [] es fs) ps f (rw (side_same f) e) ∙ ap Centre (face-same f) ∙ sym (answer-centre flag (mesh_of c outs es fs) ps f e)
-      go (some h) e = answer-pair flag (mesh_of c [] es fs) ps f h (rw (side_same f) e) ∙ sym (answer-pair flag (mesh_of c outs es fs) ps f h e)
+      go : (o : Option ℕ) → if flag (rim_side f (mesh_of c outs es fs)) None ≡ o → sqrt_answer flag (mesh_of c [] es fs) ps f ≡ sqrt_answer flag (mesh_of c outs es fs) ps f
+      go None e = answer-centre flag (mesh_of c [] es fs) ps f (rw (side_same f) e) ∙ ap Centre (face-same f) ∙ sym (answer-centre flag (mesh_of c outs es fs) ps f e)
+      go (Some h) e = answer-pair flag (mesh_of c [] es fs) ps f h (rw (side_same f) e) ∙ sym (answer-pair flag (mesh_of c outs es fs) ps f h e)
 
   answers-same : (l : List ℕ) → answers flag (mesh_of c [] es fs) ps l ≡ answers flag (mesh_of c outs es fs) ps l
   unfolding answers
   answers-same [] = refl
   answers-same (f ∷ l) = rw (answer-same f, answers-same l)
 
-  module _ (os : Outs c outs es) (rows : List Weights) {rule : RimRule} {r : Weightless} {w₁ : List Float} (u : rule ≡ sqrt_rule flag) (t : rows ≡ table sqrt_rows)
+  module _ (os : Outs c outs es) (rows : List Weights) {rule : Point → Point → Point → Point} {r : Result ⊤ ℕ} {w₁ : List Float} (u : rule ≡ sqrt_rule flag) (t : rows ≡ table sqrt_rows)
       (d : Smoothed (crowded (mesh_of c outs es [])) r w₁ (place 0 (made (vertex_of rows rule (mesh_of c outs es []) ps) (reached (crowded (mesh_of c outs es [])) c.v)) w)) where
     vertices-same : (o : Option ℕ) → crowded (mesh_of c outs es []) ≡ o → (k : ℕ) → k < reached o c.v → vertex_of rows rule (mesh_of c outs es []) ps k ≡ sqrt_vertex flag (mesh_of c outs es fs) ps k
     vertices-same o q k l =
         let b = reached-le (mesh_of c outs es []) o q in
         rw u (sqrt-vertex-is c outs es fs ps os rows k (omega arith) (light (mesh_of c outs es []) o q k l) t flag)
 
-    pub sqrt-moved : {w₂ : List Float} → r ≡ Nobody → w₂ ≡ place (3 * c.v) (flat (answers flag (mesh_of c [] es fs) ps (range 0 c.f))) w₁ →
-        Smoothed (crowded (mesh_of c outs es [])) Nobody w₂ (over (sqrt_left (crowded (mesh_of c outs es [])) flag (mesh_of c outs es fs) ps) w)
+    pub sqrt-moved : {w₂ : List Float} → r ≡ (Ok tt) → w₂ ≡ place (3 * c.v) (flat (answers flag (mesh_of c [] es fs) ps (range 0 c.f))) w₁ →
+        Smoothed (crowded (mesh_of c outs es [])) (Ok tt) w₂ (over (sqrt_left (crowded (mesh_of c outs es [])) flag (mesh_of c outs es fs) ps) w)
     unfolding sqrt_points
     sqrt-moved {w₂} n b = go (crowded (mesh_of c outs es [])) refl d
       where
         go : (o : Option ℕ) → crowded (mesh_of c outs es []) ≡ o → Smoothed o r w₁ (place 0 (made (vertex_of rows rule (mesh_of c outs es []) ps) (reached o c.v)) w) →
-            Smoothed (crowded (mesh_of c outs es [])) Nobody w₂ (over (sqrt_left (crowded (mesh_of c outs es [])) flag (mesh_of c outs es fs) ps) w)
-        go none o d' =
+            Smoothed (crowded (mesh_of c outs es [])) (Ok tt) w₂ (over (sqrt_left (crowded (mesh_of c outs es [])) flag (mesh_of c outs es fs) ps) w)
+        go None o d' =
             let x : made (vertex_of rows rule (mesh_of c outs es []) ps) c.v ≡ made (sqrt_vertex flag (mesh_of c outs es fs) ps) c.v =
-            made-same (vertex_of rows rule (mesh_of c outs es []) ps) (sqrt_vertex flag (mesh_of c outs es fs) ps) c.v (vertices-same none o) in
+            made-same (vertex_of rows rule (mesh_of c outs es []) ps) (sqrt_vertex flag (mesh_of c outs es fs) ps) c.v (vertices-same None o) in
             rw o (record {
               answer = refl;
               content = b ∙ rw (d'.content, x, answers-same (range 0 c.f))
                   (two-parts (sqrt_vertex flag (mesh_of c outs es fs) ps) c.v (answers flag (mesh_of c outs es fs) ps (range 0 c.f)) w);
             })
-        go (some v) o d' = let z : Nobody ≡ Vertex v = sym n ∙ d'.answer in absurd (let y : ◌≡◌ {A = ℕ} 0 1 = cc in omega arith)
+        go (Some v) o d' = let z : Ok tt ≡ Err v = sym n ∙ d'.answer in cc
 
-    pub sqrt-refused : (v : ℕ) → r ≡ Vertex v →
-        Smoothed (crowded (mesh_of c outs es [])) (Vertex v) w₁ (over (sqrt_left (crowded (mesh_of c outs es [])) flag (mesh_of c outs es fs) ps) w)
+    pub sqrt-refused : (v : ℕ) → r ≡ Err v →
+        Smoothed (crowded (mesh_of c outs es [])) (Err v) w₁ (over (sqrt_left (crowded (mesh_of c outs es [])) flag (mesh_of c outs es fs) ps) w)
     sqrt-refused v n = go (crowded (mesh_of c outs es [])) refl d
       where
         go : (o : Option ℕ) → crowded (mesh_of c outs es []) ≡ o → Smoothed o r w₁ (place 0 (made (vertex_of rows rule (mesh_of c outs es []) ps) (reached o c.v)) w) →
-            Smoothed (crowded (mesh_of c outs es [])) (Vertex v) w₁ (over (sqrt_left (crowded (mesh_of c outs es [])) flag (mesh_of c outs es fs) ps) w)
-        go none o d' = let z : Vertex v ≡ Nobody = sym n ∙ d'.answer in absurd (let y : ◌≡◌ {A = ℕ} 0 1 = cc in omega arith)
-        go (some x) o d' =
+            Smoothed (crowded (mesh_of c outs es [])) (Err v) w₁ (over (sqrt_left (crowded (mesh_of c outs es [])) flag (mesh_of c outs es fs) ps) w)
+        go None o d' = let z : Err v ≡ (Ok tt) = sym n ∙ d'.answer in cc
+        go (Some x) o d' =
             rw o (record {
               answer = sym n ∙ d'.answer;
-              content = d'.content ∙ part (vertex_of rows rule (mesh_of c outs es []) ps) (sqrt_vertex flag (mesh_of c outs es fs) ps) x w (vertices-same (some x) o);
+              content = d'.content ∙ part (vertex_of rows rule (mesh_of c outs es []) ps) (sqrt_vertex flag (mesh_of c outs es fs) ps) x w (vertices-same (Some x) o);
             })

@@ -1,60 +1,48 @@
 // The points of all edges under Loop.
 
-ghost use Rattle.std.specs.Prelude.{◌≡◌, [], length, ◌≤◌, ◌<◌, ◌+◌, ◌*◌};
+ghost use Rattle.std.specs.Prelude.{◌≡◌, length, ◌≤◌, ◌<◌, ◌+◌, ◌*◌};
 ghost use Rattle.scope.specs.Points.{loop_edge_point};
 ghost use Rattle.mesh.specs.Words.{next_at};
 ghost use Rattle.points_catmull.specs.Place.{place, made};
-ghost use Rattle.points_catmull.specs.Sums.{Halves, mesh_of, head_point};
+ghost use Rattle.points_catmull.specs.Cages.{edges_in};
+ghost use Rattle.points_catmull.specs.Sums.{head_point};
 
-use mesh::half::{head, next};
+use mesh::half::next;
 use mesh::rim::rim_edge;
-use mesh::rows::{load_point, store_point};
+use mesh::rows::store_point;
 use points::{loop_edge, middle};
-use points_catmull::sums::narrow;
-use scope::records::{Counts, Point};
+use points_catmull::cage::Cage;
+use scope::records::Point;
 
 // The corner opposite to h in its triangle.
-fn opposite(edges: &[u32], points: &[f64], c: Counts, h: u32) -> Point
-    requires halves { Halves c edges.now }
-    requires v_in_bounds { 3 * c.v ≤ length points.now }
-    requires h_bound { h < 2 * c.e }
-    ensures { result ≡ head_point edges.now points.now (next_at edges.now h) }
+fn opposite(cage: &Cage, h: u32) -> Point
+    requires { h < 2 * cage.now.c.e }
+    ensures { result ≡ head_point cage.now.edges.now cage.now.points.now (next_at cage.now.edges.now h) }
 {
-    load_point(points, head(edges, next(edges, h)))
+    cage.head_point(next(cage.edges, h))
 }
 
 // The point of edge e.
-fn edge_point(edges: &[u32], points: &[f64], c: Counts, update: bool, e: u32) -> Point
-    requires halves { Halves c edges.now }
-    requires v_in_bounds { 3 * c.v ≤ length points.now }
-    requires e_lt_e { e < c.e }
-    ensures { result ≡ loop_edge_point update (mesh_of c [] edges.now []) points.now e }
+fn edge_point(cage: &Cage, update: bool, e: u32) -> Point
+    requires { e < cage.now.c.e }
+    ensures { result ≡ loop_edge_point update (edges_in cage.now) cage.now.points.now e }
 {
-    let a = load_point(points, head(edges, 2 * e));
-    let b = load_point(points, head(edges, 2 * e + 1));
-    if !update {
+    let a = cage.head_point(2 * e);
+    let b = cage.head_point(2 * e + 1);
+    if !update || rim_edge(cage.edges, e) {
         return middle(a, b);
     }
-    if rim_edge(edges, e) {
-        return middle(a, b);
-    }
-    let f = opposite(edges, points, c, 2 * e);
-    let g = opposite(edges, points, c, 2 * e + 1);
+    let f = opposite(cage, 2 * e);
+    let g = opposite(cage, 2 * e + 1);
     loop_edge(a, b, f, g)
 }
 
-pub fn put_edges(edges: &[u32], points: &[f64], c: Counts, update: bool, work: &mut [f64])
-    requires halves { Halves c edges.now }
-    requires v_in_bounds { 3 * c.v ≤ length points.now }
-    requires e_in_bounds { 3 * (c.v + c.e) ≤ length work.old }
-    ensures { work.new ≡ place (3 * c.v) (made (loop_edge_point update (mesh_of c [] edges.now []) points.now) c.e) work.old }
+pub fn put_edges(cage: &Cage, update: bool, work: &mut [f64])
+    requires { 3 * (cage.now.c.v + cage.now.c.e) ≤ length work.old }
+    ensures { work.new ≡ place (3 * cage.now.c.v) (made (loop_edge_point update (edges_in cage.now) cage.now.points.now) cage.now.c.e) work.old }
 {
-    let at = narrow(c.v);
-    let n = narrow(c.e);
-    let mut e: u32 = 0;
-    while e < n {
-        let p = edge_point(edges, points, c, update, e);
-        store_point(work, at + e, p);
-        e += 1;
+    let at = cage.c.v as u32;
+    for e in 0..cage.c.e as u32 {
+        store_point(work, at + e, edge_point(cage, update, e));
     }
 }

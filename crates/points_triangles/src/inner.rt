@@ -1,87 +1,62 @@
-// The point of a vertex under Loop and sqrt3, which differ in their weights and in what they do on the rim.
+// The point of a vertex under Loop and sqrt3.
 
-ghost use Rattle.std.specs.Prelude.{◌≡◌, [], length, ◌≤◌, ◌<◌, ◌*◌};
+ghost use Rattle.std.specs.Prelude.{◌≡◌, ◌<◌, ◌*◌};
 ghost use Rattle.mesh.specs.Words.{prev_at};
-ghost use Rattle.points_catmull.specs.Sums.{Halves, Outs, mesh_of, head_point};
-ghost use Rattle.points_triangles.specs.Vertices.{moved_inner, moved_vertex, rim_point, tail_point};
+ghost use Rattle.points_catmull.specs.Cages.{vertices_in};
+ghost use Rattle.points_catmull.specs.Sums.{head_point};
+ghost use Rattle.points_triangles.specs.Vertices.{moved_inner, moved_vertex, tail_point};
 
-use mesh::half::{NONE, head, prev, tail};
+use crate::scheme::Scheme;
+use mesh::half::{NONE, partner, prev};
 use mesh::rim::rim;
 use mesh::rows::{load_point, out};
-use points::{loop_rim, sqrt_rim};
-use points_catmull::sums::turn_heads;
-use points_weights::{Found, find};
-use scope::records::{Counts, Point};
+use mesh_walk::round::ByTurn;
+use points::weighted;
+use points_catmull::cage::{Cage, Vertices};
+use points_weights::find;
+use scope::records::{Point, Weights};
 
-// What a scheme does with a vertex on the rim.
-#[derive(Clone, Copy)]
-pub enum RimRule {
-    Stay,
-    Eighths,
-    TwentySevenths,
-}
-
-// Where a vertex goes; or, in the interior, the row of its weights, the sum of its neighbours and its own point; or that its valence has no weights.
-#[derive(Clone, Copy)]
-pub enum Moved {
-    To(Point),
-    By(usize, Point, Point),
-    NoWeight,
-}
-
-// The interior vertex p that h leaves.
-fn inner_point(edges: &[u32], points: &[f64], c: Counts, h: u32, p: Point) -> Moved
-    requires halves { Halves c edges.now }
-    requires v_in_bounds { 3 * c.v ≤ length points.now }
-    requires h_bound { h < 2 * c.e }
-    ensures { result ≡ moved_inner edges.now c.e points.now h p }
+// The point that h comes from.
+pub fn tail_point(cage: &Cage, h: u32) -> Point
+    requires { h < 2 * cage.now.c.e }
+    ensures { result ≡ tail_point cage.now.edges.now cage.now.points.now h }
 {
-    let s = turn_heads(edges, points, c, h);
-    let ns = s.total;
-    match find(s.count) {
-        Found::Row(row) => Moved::By(row, ns, p),
-        Found::TooMany => Moved::NoWeight,
-    }
+    cage.head_point(partner(h))
 }
 
-// The vertex p on the rim, whose rim halfedge is h.
-fn rim_point(edges: &[u32], points: &[f64], c: Counts, rule: RimRule, h: u32, p: Point) -> Point
-    requires halves { Halves c edges.now }
-    requires v_in_bounds { 3 * c.v ≤ length points.now }
-    requires h_bound { h < 2 * c.e }
-    ensures { result ≡ rim_point rule p (head_point edges.now points.now h) (tail_point edges.now points.now (prev_at edges.now h)) }
+// Where the interior vertex p goes that h leaves, if its valence has weights.
+fn inner_point(cage: &Cage, rows: &[Weights; 64], h: u32, p: Point) -> Option<Point>
+    requires { h < 2 * cage.now.c.e }
+    ensures { result ≡ moved_inner rows.now cage.now.edges.now cage.now.c.e cage.now.points.now h p }
 {
-    let a = load_point(points, head(edges, h));
-    let b = load_point(points, tail(edges, prev(edges, h)));
-    match rule {
-        RimRule::Stay => p,
-        RimRule::Eighths => loop_rim(p, a, b),
-        RimRule::TwentySevenths => sqrt_rim(p, a, b),
-    }
+    let s = cage.heads::<ByTurn>(h);
+    let row = find(s.count)?;
+    Some(weighted(s.total, p, rows[row]))
 }
 
-// The vertex v.
-pub fn vertex_point(
-    outs: &[u32],
-    edges: &[u32],
-    points: &[f64],
-    c: Counts,
-    rule: RimRule,
-    v: u32,
-) -> Moved
-    requires halves { Halves c edges.now }
-    requires outs { Outs c outs.now edges.now }
-    requires v_in_bounds { 3 * c.v ≤ length points.now }
-    requires v_lt_v { v < c.v }
-    ensures { result ≡ moved_vertex rule (mesh_of c outs.now edges.now []) points.now v }
+// Where the vertex p on the rim goes, whose rim halfedge is h.
+fn rim_point<S: Scheme>(cage: &Cage, h: u32, p: Point) -> Point
+    requires { h < 2 * cage.now.c.e }
+    ensures { result ≡ S.rim p (head_point cage.now.edges.now cage.now.points.now h) (tail_point cage.now.edges.now cage.now.points.now (prev_at cage.now.edges.now h)) }
 {
-    let p = load_point(points, v);
-    let h = out(outs, v);
+    let a = cage.head_point(h);
+    let b = tail_point(cage, prev(cage.edges, h));
+    S::rim(p, a, b)
+}
+
+// Where the vertex v goes, if its valence has weights where it wants them.
+pub fn vertex_point<S: Scheme>(vertices: &Vertices, rows: &[Weights; 64], v: u32) -> Option<Point>
+    requires { v < vertices.now.cage.c.v }
+    ensures { result ≡ moved_vertex rows.now S.rim (vertices_in vertices.now) vertices.now.cage.points.now v }
+{
+    let cage = &vertices.cage;
+    let p = load_point(cage.points, v);
+    let h = out(vertices.outs, v);
     if h == NONE {
-        return Moved::To(p);
+        return Some(p);
     }
-    if rim(edges, h) {
-        return Moved::To(rim_point(edges, points, c, rule, h, p));
+    if rim(cage.edges, h) {
+        return Some(rim_point::<S>(cage, h, p));
     }
-    inner_point(edges, points, c, h, p)
+    inner_point(cage, rows, h, p)
 }

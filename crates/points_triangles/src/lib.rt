@@ -7,4 +7,5 @@ pub mod edges;
 pub mod faces;
 pub mod inner;
 pub mod passes;
+pub mod scheme;
 pub mod vertices;

@@ -1,12 +1,10 @@
 -- The weight tables as the code has them, and which row is for a valence. Assumes nothing.
-use Rattle.std.specs.Prelude.{ℕ, ◌-◌, ◌^◌, false, List, ◌∷◌, map, ltb, drop, Float}
+use Rattle.std.specs.Prelude.{ℕ, ◌-◌, ◌^◌, false, List, ◌∷◌, map, ltb, drop, Float, Option, Some, None}
 use Rattle.std.specs.Float.{nan, binary64}
 use Rattle.std.specs.Float.Ieee.{round}
 use Rattle.scope.specs.declared.records.Weights.{Weights}
 use Rattle.scope.specs.Lists.{if}
 use Rattle.scope.specs.Weights.{dec}
-use Rattle.points_weights.specs.declared.Found.{Found}
-use Rattle.points_weights.specs.declared.Found.TheVariants.{Row, TooMany}
 
 -- f64::MAX
 unfoldable pub largest : Float
@@ -23,5 +21,5 @@ weights p = record { first = dec p.0; second = dec p.1 }
 unfoldable pub table : List (ℕ × ℕ) → List Weights
 table rows = record { first = largest; second = largest } ∷ map weights (drop 1 rows)
 
-unfoldable pub found : ℕ → Found
-found n = if (ltb n 64) (Row n) TooMany
+unfoldable pub found : ℕ → Option ℕ
+found n = if (ltb n 64) (Some n) None

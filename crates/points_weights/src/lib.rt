@@ -8,13 +8,6 @@ ghost use Rattle.points_weights.specs.Tables.{table, found};
 
 use scope::records::Weights;
 
-// Where a table has the weights for a valence.
-#[derive(Clone, Copy)]
-pub enum Found {
-    Row(usize),
-    TooMany,
-}
-
 // Loop's, as in `loop_subd.rs`. Row 0 is never read.
 const LOOP: [Weights; 64] = [
     Weights {
@@ -535,7 +528,8 @@ const SQRT: [Weights; 64] = [
     },
 ];
 
-// A loop over vertices takes its table once: a constant that is indexed would be made anew at each vertex.
+// Two functions, since docs/PROOFS.md names both. A loop over vertices takes its table once, and lends it: a constant that is indexed, or a table that goes by
+// value into a function called for each vertex, would be made anew at each vertex.
 pub fn loop_table() -> [Weights; 64]
     ensures { result ≡ table loop_rows }
 {
@@ -548,13 +542,10 @@ pub fn sqrt_table() -> [Weights; 64]
     SQRT
 }
 
-// The row for valence n, below 64. Its number, not its weights: a table that goes by value into a function called for each vertex is built again each time.
-pub fn find(n: u32) -> Found
+// The row for valence n, which has one where it is below 64.
+#[tactic(auto, unfolding(crate::specs::Tables::found))]
+pub fn find(n: u32) -> Option<usize>
     ensures { result ≡ found n }
 {
-    if n < 64 {
-        Found::Row(n as usize)
-    } else {
-        Found::TooMany
-    }
+    if n < 64 { Some(n as usize) } else { None }
 }

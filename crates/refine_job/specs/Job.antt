@@ -1,22 +1,26 @@
 -- One run over the bytes of a mesh file: the reader's answer (document 01, section 5), then the call's (section 4), then the writer's. Assumes nothing.
-use Rattle.std.specs.Prelude.{ℕ, ◌≤◌, ◌≡◌, Bool, List, length, take, Float}
-use Rattle.std.proofs.Math.Option.{Option, none, some}
+use Rattle.std.specs.Prelude.{ℕ, ◌≤◌, ◌≡◌, Bool, List, length, take, Float, Option, None, Some, Result, Ok, Err}
 use Rattle.scope.specs.declared.records.Counts.{Counts}
 use Rattle.scope.specs.declared.answers.Refusal.{Refusal}
-use Rattle.scope.specs.declared.answers.Subdivided.{Subdivided}
-use Rattle.scope.specs.declared.answers.Subdivided.TheVariants.{Done, Refused as NotDone}
+use Rattle.scope.specs.Answers.{Subdivided}
 use Rattle.scope.specs.Lists.{number_of}
 use Rattle.scope.specs.Slices.{Slices, Buffers, sizes}
 use Rattle.scope.specs.Call.{Scheme, Outcome, call}
 use Rattle.mesh.specs.Rounds.{rim_edge_at}
 use Rattle.file_read.specs.Format.{Lent, file_counts, file_end, read_refusal, read_leaves, write_refusal, write_leaves}
 use Rattle.call_steps.specs.Lent.{given_at}
-use Rattle.refine_job.specs.declared.Refined.{Refined}
-use Rattle.refine_job.specs.declared.Refined.TheVariants.{Written, Refused}
+use Rattle.refine_job.specs.declared.Written.{Written}
+
+-- what a run answers
+abbrev pub Refined : Type 0
+Refined = Result Written Refusal
+
+abbrev pub written : ℕ → Counts → Bool → ℕ → Refined
+written n c next rim = Ok (record { size = n; counts = c; next = next; rim = rim })
 
 -- a file that was written has at most m bytes
 pub record Within (r : Refined) (m : ℕ) : Type 0 where
-  pub so : (n : ℕ) (c : Counts) (next : Bool) (rim : ℕ) → r ≡ Written n c next rim → n ≤ m
+  pub so : (n : ℕ) (c : Counts) (next : Bool) (rim : ℕ) → r ≡ written n c next rim → n ≤ m
 
 -- ---- the writer's part: an answer, and the bytes
 pub record Saved : Type 0 where
@@ -28,8 +32,8 @@ saved_at r file = record { answer = r; file = file }
 
 -- §3: b is the number of edges with a rim halfedge
 abbrev pub saving : Option Refusal → Counts → Bool → List ℕ → Refined
-saving none c next edges = Written (file_end c) c next (number_of c.e (rim_edge_at edges))
-saving (some r) c next edges = Refused r
+saving None c next edges = written (file_end c) c next (number_of c.e (rim_edge_at edges))
+saving (Some r) c next edges = Err r
 
 unfoldable pub saved : Counts → Bool → Slices → List Float → List ℕ → Saved
 saved c next s ps file =
@@ -45,8 +49,8 @@ abbrev pub made_at : Refined → List ℕ → Buffers → Made
 made_at r file b = record { saved = saved_at r file; buffers = b }
 
 unfoldable pub answering : Subdivided → Buffers → List ℕ → Made
-answering (Done c next) b file = record { saved = saved c next b.result b.points file; buffers = b }
-answering (NotDone r) b file = made_at (Refused r) file b
+answering (Ok (c, next)) b file = record { saved = saved c next b.result b.points file; buffers = b }
+answering (Err r) b file = made_at (Err r) file b
 
 abbrev pub made : Outcome → List ℕ → Made
 made o file = answering o.answer o.left file
@@ -61,8 +65,8 @@ left_at r file cage b = record { made = made_at r file b; cage = cage }
 
 -- the reader's answer, the bytes that were read, all bytes, the mesh that was read and what is lent for the result
 unfoldable pub going : Option Refusal → Scheme → ℕ → Bool → List ℕ → List ℕ → Lent → Buffers → Made
-going none S k flag given file cage b = made (call S k flag (given_at (file_counts given) cage.slices cage.points) b) file
-going (some r) S k flag given file cage b = made_at (Refused r) file b
+going None S k flag given file cage b = made (call S k flag (given_at (file_counts given) cage.slices cage.points) b) file
+going (Some r) S k flag given file cage b = made_at (Err r) file b
 
 unfoldable pub refined : Scheme → ℕ → Bool → ℕ → List ℕ → Lent → Buffers → Left
 refined S k flag n file cage b =

@@ -4,50 +4,56 @@
 
 ghost use Rattle.std.specs.Prelude.{◌≡◌, ◌≤◌, length};
 ghost use Rattle.scope.specs.Call.{call};
-ghost use Rattle.check_mesh.specs.Checked.{slices_at};
+ghost use Rattle.mesh.specs.Given.{lists, given};
 ghost use Rattle.call_room.specs.Kinds.{scheme_of};
-ghost use Rattle.file_read.specs.Format.{lent_at};
-ghost use Rattle.call_steps.specs.Lent.{given_at, buffers_at};
+ghost use Rattle.file_read.specs.Held as cages;
+ghost use Rattle.call_steps.specs.Lent.{given_at, lent, SameSlices};
 ghost use Rattle.refine_job.specs.Job.{Within, saved_at, saved, made_at, made, left_at, refined};
 
 use call::subdivide;
 use call_room::kind::Kind;
+use call_steps::lent::Buffers;
 use count_fields::numbers::rim_edges;
-use file_read::read::{Reading, read};
-use file_write::write::{Writing, write};
-use scope::answers::{Refusal, Subdivided};
+use file_read::lent::Lent;
+use file_read::read::read;
+use file_write::write::write;
+use mesh::given::Given;
+use scope::answers::Refusal;
 use scope::records::Counts;
 
-// What a run answers: the length of the file that was written, the counts of its mesh, the flag for the next run and the edges with a rim
-// halfedge; or why there is none.
-#[derive(Clone, Copy)]
-pub enum Refined {
-    Written(usize, Counts, bool, usize),
-    Refused(Refusal),
+// What was written: the length of the file, the counts of its mesh, the flag for the next run and the edges with a rim halfedge.
+#[derive(Clone, Copy, Debug, PartialEq, Eq)]
+pub struct Written {
+    pub size: usize,
+    pub counts: Counts,
+    pub next: bool,
+    pub rim: usize,
 }
 
 // The mesh that was made, as a file.
-fn save(
-    outs: &[u32],
-    edges: &[u32],
-    faces: &[u32],
-    vmarks: &[u8],
-    emarks: &[u8],
-    fmarks: &[u8],
-    points: &[f64],
-    c: Counts,
-    next: bool,
-    file: &mut [u8],
-) -> Refined
-    ensures file_after { saved_at result file.new ≡ saved c next (slices_at outs.now edges.now faces.now vmarks.now emarks.now fmarks.now) points.now file.old }
+#[tactic(auto, using(crate::proofs::JobLaws::size_written, crate::proofs::JobLaws::saved_written, crate::proofs::JobLaws::saved_refused, crate::proofs::JobLaws::within_written, crate::proofs::JobLaws::within_refused))]
+fn save(m: Given<'_>, next: bool, file: &mut [u8]) -> Result<Written, Refusal>
+    ensures file_after { saved_at result file.new ≡ saved m.entry.counts next (lists m.entry.slices) m.entry.points.now file.old }
     ensures within { Within result (length file.new) }
 {
-    match write(outs, edges, faces, vmarks, emarks, fmarks, points, c, file) {
-        Writing::Written(n) => {
-            let rim = rim_edges(edges, c.e);
-            Refined::Written(n, c, next, rim)
-        }
-        Writing::Refused(r) => Refined::Refused(r),
+    let size = write(m, file)?;
+    let rim = rim_edges(m.slices.edges, m.counts.e);
+    Ok(Written {
+        size,
+        counts: m.counts,
+        next,
+        rim,
+    })
+}
+
+// The mesh that was made.
+fn result<'a>(room: &'a Buffers<'_>, counts: Counts) -> Given<'a>
+    ensures { given result ≡ given_at counts (lent room.now).result (lent room.now).points }
+{
+    Given {
+        counts,
+        slices: room.slices(),
+        points: room.points,
     }
 }
 
@@ -56,71 +62,35 @@ fn make(
     kind: Kind,
     passes: u32,
     flag: bool,
-    outs: &[u32],
-    edges: &[u32],
-    faces: &[u32],
-    vmarks: &[u8],
-    emarks: &[u8],
-    fmarks: &[u8],
-    points: &[f64],
-    c: Counts,
-    newouts: &mut [u32],
-    newedges: &mut [u32],
-    newfaces: &mut [u32],
-    newvmarks: &mut [u8],
-    newemarks: &mut [u8],
-    newfmarks: &mut [u8],
-    newpoints: &mut [f64],
-    work: &mut [f64],
+    g: Given<'_>,
+    room: &mut Buffers<'_>,
     file: &mut [u8],
-) -> Refined
-    ensures work_after { made_at result file.new (buffers_at (slices_at newouts.new newedges.new newfaces.new newvmarks.new newemarks.new newfmarks.new) newpoints.new work.new) ≡ made (call (scheme_of kind) passes flag (given_at c (slices_at outs.now edges.now faces.now vmarks.now emarks.now fmarks.now) points.now) (buffers_at (slices_at newouts.old newedges.old newfaces.old newvmarks.old newemarks.old newfmarks.old) newpoints.old work.old)) file.old }
+) -> Result<Written, Refusal>
+    ensures same_slices { SameSlices room.old room.new }
+    ensures after { made_at result file.new (lent room.new) ≡ made (call (scheme_of kind) passes flag (given g.entry) (lent room.old)) file.old }
     ensures within { Within result (length file.new) }
 {
-    match subdivide(
-        kind, passes, flag, outs, edges, faces, vmarks, emarks, fmarks, points, c, newouts,
-        newedges, newfaces, newvmarks, newemarks, newfmarks, newpoints, work,
-    ) {
-        Subdivided::Done(d, next) => save(
-            newouts, newedges, newfaces, newvmarks, newemarks, newfmarks, newpoints, d, next, file,
-        ),
-        Subdivided::Refused(r) => Refined::Refused(r),
-    }
+    let (counts, next) = subdivide(kind, passes, flag, g, room)?;
+    save(result(room, counts), next, file)
 }
 
-// The first n bytes of `file` are a mesh file. When done, the file of the result is at its front. A refusal leaves `file` as it was.
+// The first n bytes of `file` are a mesh file. When done, the file of the result is at its front, which may be longer: so n stands beside the slice.
+// A refusal leaves `file` as it was.
 pub fn refine(
     kind: Kind,
     passes: u32,
     flag: bool,
     file: &mut [u8],
     n: usize,
-    outs: &mut [u32],
-    edges: &mut [u32],
-    faces: &mut [u32],
-    vmarks: &mut [u8],
-    emarks: &mut [u8],
-    fmarks: &mut [u8],
-    points: &mut [f64],
-    newouts: &mut [u32],
-    newedges: &mut [u32],
-    newfaces: &mut [u32],
-    newvmarks: &mut [u8],
-    newemarks: &mut [u8],
-    newfmarks: &mut [u8],
-    newpoints: &mut [f64],
-    work: &mut [f64],
-) -> Refined
+    cage: &mut Lent<'_>,
+    room: &mut Buffers<'_>,
+) -> Result<Written, Refusal>
     requires { n ≤ length file.old }
-    ensures work_after { left_at result file.new (lent_at outs.new edges.new faces.new vmarks.new emarks.new fmarks.new points.new) (buffers_at (slices_at newouts.new newedges.new newfaces.new newvmarks.new newemarks.new newfmarks.new) newpoints.new work.new) ≡ refined (scheme_of kind) passes flag n file.old (lent_at outs.old edges.old faces.old vmarks.old emarks.old fmarks.old points.old) (buffers_at (slices_at newouts.old newedges.old newfaces.old newvmarks.old newemarks.old newfmarks.old) newpoints.old work.old) }
+    ensures same_cage { cages.SameSlices cage.old cage.new }
+    ensures same_slices { SameSlices room.old room.new }
+    ensures after { left_at result file.new (cages.held cage.new) (lent room.new) ≡ refined (scheme_of kind) passes flag n file.old (cages.held cage.old) (lent room.old) }
     ensures within { Within result (length file.new) }
 {
-    let given = &file[..n];
-    match read(given, outs, edges, faces, vmarks, emarks, fmarks, points) {
-        Reading::Read(c) => make(
-            kind, passes, flag, outs, edges, faces, vmarks, emarks, fmarks, points, c, newouts,
-            newedges, newfaces, newvmarks, newemarks, newfmarks, newpoints, work, file,
-        ),
-        Reading::Refused(r) => Refined::Refused(r),
-    }
+    let counts = read(&file[..n], cage)?;
+    make(kind, passes, flag, cage.mesh(counts), room, file)
 }

@@ -7,73 +7,10 @@ ghost use Rattle.std.specs.Prelude.{◌≡◌, ◌≤◌, length};
 ghost use Rattle.refine_job.specs.Job.{Within};
 
 use call_room::kind::Kind;
-use refine_job::{Refined, refine};
-
-fn cage_links() -> [u32; 7680]
-    ensures { 7680 ≡ length result }
-{
-    [0; 7680]
-}
-
-fn cage_edges() -> [u32; 122880]
-    ensures { 122880 ≡ length result }
-{
-    [0; 122880]
-}
-
-fn cage_marks() -> [u8; 7680]
-    ensures { 7680 ≡ length result }
-{
-    [0; 7680]
-}
-
-fn cage_edge_marks() -> [u8; 15360]
-    ensures { 15360 ≡ length result }
-{
-    [0; 15360]
-}
-
-fn cage_points() -> [f64; 23040]
-    ensures { 23040 ≡ length result }
-{
-    [0.0; 23040]
-}
-
-fn result_links() -> [u32; 28672]
-    ensures { 28672 ≡ length result }
-{
-    [0; 28672]
-}
-
-fn result_edges() -> [u32; 466944]
-    ensures { 466944 ≡ length result }
-{
-    [0; 466944]
-}
-
-fn result_marks() -> [u8; 28672]
-    ensures { 28672 ≡ length result }
-{
-    [0; 28672]
-}
-
-fn result_edge_marks() -> [u8; 58368]
-    ensures { 58368 ≡ length result }
-{
-    [0; 58368]
-}
-
-fn result_points() -> [f64; 86016]
-    ensures { 86016 ≡ length result }
-{
-    [0.0; 86016]
-}
-
-fn work_numbers() -> [f64; 184320]
-    ensures { 184320 ≡ length result }
-{
-    [0.0; 184320]
-}
+use call_steps::lent::Buffers;
+use file_read::lent::Lent;
+use refine_job::{Written, refine};
+use scope::answers::Refusal;
 
 pub fn file_bytes() -> [u8; 2901056]
     ensures { 2901056 ≡ length result }
@@ -82,13 +19,19 @@ pub fn file_bytes() -> [u8; 2901056]
 }
 
 // One run over the first n bytes of `file`, which then begins with the file of the result.
-pub fn run(kind: Kind, passes: u32, flag: bool, file: &mut [u8], n: usize) -> Refined
+pub fn run(
+    kind: Kind,
+    passes: u32,
+    flag: bool,
+    file: &mut [u8],
+    n: usize,
+) -> Result<Written, Refusal>
     requires { n ≤ length file.old }
     ensures { Within result (length file.new) }
 {
-    let mut points = cage_points();
-    let mut newpoints = result_points();
-    let mut work = work_numbers();
+    let mut points = [0.0; 23040];
+    let mut newpoints = [0.0; 86016];
+    let mut work = [0.0; 184320];
     run_beside(
         kind,
         passes,
@@ -112,42 +55,40 @@ fn run_beside(
     points: &mut [f64],
     newpoints: &mut [f64],
     work: &mut [f64],
-) -> Refined
+) -> Result<Written, Refusal>
     requires { n ≤ length file.old }
     ensures { Within result (length file.new) }
 {
-    let mut outs = cage_links();
-    let mut edges = cage_edges();
-    let mut faces = cage_links();
-    let mut vmarks = cage_marks();
-    let mut emarks = cage_edge_marks();
-    let mut fmarks = cage_marks();
-    let mut newouts = result_links();
-    let mut newedges = result_edges();
-    let mut newfaces = result_links();
-    let mut newvmarks = result_marks();
-    let mut newemarks = result_edge_marks();
-    let mut newfmarks = result_marks();
-    refine(
-        kind,
-        passes,
-        flag,
-        file,
-        n,
-        &mut outs,
-        &mut edges,
-        &mut faces,
-        &mut vmarks,
-        &mut emarks,
-        &mut fmarks,
+    let mut outs = [0; 7680];
+    let mut edges = [0; 122880];
+    let mut faces = [0; 7680];
+    let mut vmarks = [0; 7680];
+    let mut emarks = [0; 15360];
+    let mut fmarks = [0; 7680];
+    let mut newouts = [0; 28672];
+    let mut newedges = [0; 466944];
+    let mut newfaces = [0; 28672];
+    let mut newvmarks = [0; 28672];
+    let mut newemarks = [0; 58368];
+    let mut newfmarks = [0; 28672];
+    let mut cage = Lent {
+        outs: &mut outs,
+        edges: &mut edges,
+        faces: &mut faces,
+        vmarks: &mut vmarks,
+        emarks: &mut emarks,
+        fmarks: &mut fmarks,
         points,
-        &mut newouts,
-        &mut newedges,
-        &mut newfaces,
-        &mut newvmarks,
-        &mut newemarks,
-        &mut newfmarks,
-        newpoints,
+    };
+    let mut room = Buffers {
+        outs: &mut newouts,
+        edges: &mut newedges,
+        faces: &mut newfaces,
+        vmarks: &mut newvmarks,
+        emarks: &mut newemarks,
+        fmarks: &mut newfmarks,
+        points: newpoints,
         work,
-    )
+    };
+    refine(kind, passes, flag, file, n, &mut cage, &mut room)
 }

@@ -2,7 +2,7 @@
 use Prim.Native.Nat.{ℕ, ◌+◌, ◌≤◌}
 use mathlib.Core.Path.{◌≡◌, refl, sym, ap, ◌∙◌}
 use mathlib.Core.Bool.{Bool}
-use mathlib.Core.List.{List, [], ◌++◌}
+use mathlib.Core.List.{List, [], ◌++◌, append_assoc, append-nil}
 use native.Mathlib.Omega.{arith}
 use lib.ListN.{length}
 use Rattle.scope.specs.declared.records.Counts.{Counts}
@@ -17,7 +17,6 @@ use Rattle.text.specs.Text.{over_from}
 use Rattle.text.specs.Ascii.{ascii}
 use Rattle.text.proofs.PutLaws.{Written, written_on, written-whole, over_none}
 use Rattle.call_room.specs.declared.kind.Kind.{Kind}
-use Rattle.call_room.specs.declared.kind.Kind.TheVariants.{Catmull}
 use Rattle.refine_words.specs.Words.{scheme_word, flag_word}
 use Rattle.refine_words.specs.Lines.{field, task_text, counts_text, card_line, place_text, where_text, refused_line}
 
@@ -26,16 +25,9 @@ infixr 30 ◌⨾◌
 pub ◌⨾◌ : {at : ℕ} {old a : List ℕ} {p : ℕ} {s b : List ℕ} {q : ℕ} {t : List ℕ} → Written at old a p s → Written p s b q t → Written at old (a ++ b) q t
 x ⨾ y = written_on _ x y.text y.place
 
--- what a put answers, with or without a bound
-pub put_of : {at : ℕ} {old w : List ℕ} {p : ℕ} {s : List ℕ} → (s ≡ over_from at w old) × (p ≡ at + length w) → Written at old w p s
-put_of e = record { text = e.0; place = e.1 }
-
-pub bound_of : {at : ℕ} {old w : List ℕ} {p : ℕ} {s : List ℕ} {B : Type 0} → (s ≡ over_from at w old) × ((p ≡ at + length w) × B) → Written at old w p s
-bound_of e = record { text = e.0; place = e.1.0 }
-
--- and what a function over them has to answer
-pub answered : {at : ℕ} {old w : List ℕ} {p : ℕ} {s : List ℕ} {B : Type 0} → Written at old w p s → B → (s ≡ over_from at w old) × ((p ≡ at + length w) × B)
-answered q b = (q.text, (q.place, b))
+-- what a put answers
+pub put_of : {at : ℕ} {old w : List ℕ} {p : ℕ} {s : List ℕ} → s ≡ over_from at w old → p ≡ at + length w → Written at old w p s
+put_of a b = record { text = a; place = b }
 
 -- a line at the front of 256 bytes
 pub line : {old w : List ℕ} {p : ℕ} {s : List ℕ} → Written 0 old w p s → p ≤ 256 → length old ≡ 256 → (s ≡ over w old) × ((p ≡ length w) × (p ≤ length s))
@@ -44,42 +36,34 @@ line {old} {w} {p} {s} q b n =
     let l = ap length e.0 ∙ length_over w old in
     (e.0, (e.1, omega arith))
 
--- ---- the pieces
-pub scheme-put : {at : ℕ} {old : List ℕ} {q : ℕ} {s : List ℕ} (kind : Kind) → Written at old (ascii "catmull") q s → Written at old (scheme_word kind) q s
-scheme-put Catmull w = w
+-- ---- the card
+regroup : (a b c d e f g h i j k l : List ℕ) → a ++ (b ++ (c ++ (d ++ (e ++ (f ++ (g ++ (h ++ (i ++ (j ++ (k ++ (l ++ []))))))))))) ≡ (a ++ (b ++ (c ++ (d ++ (e ++ (f ++ g)))))) ++ ((h ++ (i ++ (j ++ k))) ++ l)
+regroup a b c d e f g h i j k l = simp (append_assoc, append-nil)
 
-pub task-put : {at : ℕ} {old : List ℕ} {q : ℕ} {s : List ℕ} (kind : Kind) (passes : ℕ) (flag next : Bool)
-    → Written at old (ascii "refined " ++ (scheme_word kind ++ (field " passes " passes ++ (ascii " flag " ++ (flag_word flag ++ (ascii " next " ++ flag_word next)))))) q s
-    → Written at old (task_text kind passes flag next) q s
-unfolding task_text
-task-put kind passes flag next w = w
-
-pub counts-put : {at : ℕ} {old : List ℕ} {q : ℕ} {s : List ℕ} (c : Counts) (rim : ℕ)
-    → Written at old (field " vertices " c.v ++ (field " edges " c.e ++ (field " faces " c.f ++ field " rim " rim))) q s → Written at old (counts_text c rim) q s
-unfolding counts_text
-counts-put c rim w = w
-
-pub card-put : {old : List ℕ} {q : ℕ} {s : List ℕ} (kind : Kind) (passes : ℕ) (flag next : Bool) (c : Counts) (rim : ℕ)
-    → Written 0 old (task_text kind passes flag next ++ (counts_text c rim ++ ascii "\n")) q s → Written 0 old (card_line kind passes flag next c rim) q s
-unfolding card_line
-card-put kind passes flag next c rim w = w
+pub card-is : {w f n : List ℕ} (kind : Kind) (passes : ℕ) (flag next : Bool) (c : Counts) (rim : ℕ) → w ≡ scheme_word kind → f ≡ flag_word flag → n ≡ flag_word next
+    → ascii "refined " ++ (w ++ (field " passes " passes ++ (ascii " flag " ++ (f ++ (ascii " next " ++ (n ++ (field " vertices " c.v ++ (field " edges " c.e ++ (field " faces " c.f ++ (field " rim " rim ++ (ascii "\n" ++ [])))))))))))
+    ≡ card_line kind passes flag next c rim
+unfolding card_line task_text counts_text
+card-is {w} {f} {n} kind passes flag next c rim a b d =
+    rw (sym a, sym b, sym d)
+    (regroup (ascii "refined ") w (field " passes " passes) (ascii " flag ") f (ascii " next ") n (field " vertices " c.v) (field " edges " c.e) (field " faces " c.f) (field " rim " rim) (ascii "\n"))
 
 pub refused-put : {old : List ℕ} {q : ℕ} {s : List ℕ} (r : Refusal) {n : ℕ} → n ≡ (said_of r).number
     → Written 0 old (field "refused " n ++ (where_text r ++ ascii "\n")) q s → Written 0 old (refused_line r) q s
 unfolding refused_line
 refused-put {old} {q} {s} r e w = rw (sym e) w
 
-pub rule-put : {at : ℕ} {old : List ℕ} {q : ℕ} {s : List ℕ} (x : Fault) → Written at old (field " rule " x.rule ++ place_text x.place) q s → Written at old (where_text (NotConsistent x)) q s
+pub rule-is : {w : List ℕ} (rule : ℕ) (p : Place) → w ≡ place_text p → field " rule " rule ++ (w ++ []) ≡ where_text (NotConsistent (record { rule = rule; place = p }))
 unfolding where_text
-rule-put x w = w
+rule-is {w} rule p e = rw (sym e) (simp append-nil)
 
-pub deleted-put : {at : ℕ} {old : List ℕ} {q : ℕ} {s : List ℕ} (p : Place) → Written at old (place_text p) q s → Written at old (where_text (MarkedDeleted p)) q s
+pub deleted-is : {w : List ℕ} (p : Place) → w ≡ place_text p → w ++ [] ≡ where_text (MarkedDeleted p)
 unfolding where_text
-deleted-put p w = w
+deleted-is {w} p e = append-nil w ∙ e
 
-pub weight-put : {at : ℕ} {old : List ℕ} {q : ℕ} {s : List ℕ} (pass v : ℕ) → Written at old (field " pass " pass ++ field " vertex " v) q s → Written at old (where_text (NoWeight pass v)) q s
+pub weight-is : (pass v : ℕ) → field " pass " pass ++ (field " vertex " v ++ []) ≡ where_text (NoWeight pass v)
 unfolding where_text
-weight-put pass v w = w
+weight-is pass v = ap (λ (l : List ℕ). field " pass " pass ++ l) (append-nil (field " vertex " v))
 
 -- a refusal without a place
 abbrev Placeless : Refusal → Type 0

@@ -1,15 +1,9 @@
 -- The words that ask for a run (document 01, sections 3 and 4: a scheme, a number of passes, a flag). Assumes nothing.
-use Rattle.std.specs.Prelude.{ℕ, zero, suc, ◌+◌, ◌*◌, ◌-◌, Bool, true, false, ◌&&◌, List, eqb, leb, length, get_or}
+use Rattle.std.specs.Prelude.{ℕ, zero, suc, ◌+◌, ◌*◌, ◌-◌, Bool, true, false, ◌&&◌, List, eqb, leb, length, get_or, Option, Some, None}
 use Rattle.scope.specs.Lists.{if, all}
 use Rattle.text.specs.Ascii.{ascii}
 use Rattle.call_room.specs.declared.kind.Kind.{Kind}
 use Rattle.call_room.specs.declared.kind.Kind.TheVariants.{Catmull}
-use Rattle.refine_words.specs.declared.words.SchemeAsked.{SchemeAsked}
-use Rattle.refine_words.specs.declared.words.SchemeAsked.TheVariants.{Scheme, NoScheme}
-use Rattle.refine_words.specs.declared.words.FlagAsked.{FlagAsked}
-use Rattle.refine_words.specs.declared.words.FlagAsked.TheVariants.{Flag, NoFlag}
-use Rattle.refine_words.specs.declared.words.PassesAsked.{PassesAsked}
-use Rattle.refine_words.specs.declared.words.PassesAsked.TheVariants.{Passes, NoNumber}
 
 -- as long, and the same in every place
 unfoldable pub same : List ℕ → List ℕ → Bool
@@ -23,11 +17,11 @@ abbrev pub flag_word : Bool → List ℕ
 flag_word true = ascii "update"
 flag_word false = ascii "keep"
 
-unfoldable pub scheme_asked : List ℕ → SchemeAsked
-scheme_asked w = if (same w (scheme_word Catmull)) (Scheme Catmull) NoScheme
+unfoldable pub scheme_asked : List ℕ → Option Kind
+scheme_asked w = if (same w (scheme_word Catmull)) (Some Catmull) None
 
-unfoldable pub flag_asked : List ℕ → FlagAsked
-flag_asked w = if (same w (flag_word true)) (Flag true) (if (same w (flag_word false)) (Flag false) NoFlag)
+unfoldable pub flag_asked : List ℕ → Option Bool
+flag_asked w = if (same w (flag_word true)) (Some true) (if (same w (flag_word false)) (Some false) None)
 
 -- the number that the first n bytes of w are in decimal
 unfoldable pub value : ℕ → List ℕ → ℕ
@@ -38,7 +32,7 @@ abbrev pub is_digit : ℕ → Bool
 is_digit d = leb 48 d && leb d 57
 
 -- one to three decimal digits and nothing else; zeros in front are taken
-unfoldable pub passes_asked : List ℕ → PassesAsked
+unfoldable pub passes_asked : List ℕ → Option ℕ
 passes_asked w =
     let n = length w in
-    if (leb 1 n && leb n 3 && all n (λ i. is_digit (get_or w i 0))) (Passes (value n w)) NoNumber
+    if (leb 1 n && leb n 3 && all n (λ i. is_digit (get_or w i 0))) (Some (value n w)) None

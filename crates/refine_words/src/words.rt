@@ -1,90 +1,60 @@
-// The words that ask for a run: its scheme, its number of passes, its flag.
+// The words that ask for a run: its scheme, its number of passes, its flag. Functions and no `TryFrom`, as neither type is this crate's.
 
-ghost use Rattle.std.specs.Prelude.{◌≡◌};
-ghost use Rattle.refine_words.specs.Words.{same, scheme_asked, flag_asked, passes_asked};
+ghost use Rattle.std.specs.Prelude.{◌≡◌, ◌≤◌, length};
+ghost use Rattle.refine_words.specs.Words.{scheme_word, flag_word, scheme_asked, flag_asked, passes_asked};
 
 use call_room::kind::Kind;
 
-#[derive(Clone, Copy)]
-pub enum SchemeAsked {
-    Scheme(Kind),
-    NoScheme,
-}
-
-#[derive(Clone, Copy)]
-pub enum FlagAsked {
-    Flag(bool),
-    NoFlag,
-}
-
-#[derive(Clone, Copy)]
-pub enum PassesAsked {
-    Passes(u32),
-    NoNumber,
-}
-
-// Whether two slices hold the same bytes.
-pub fn same_bytes(a: &[u8], b: &[u8]) -> bool
-    ensures { result ≡ same a.now b.now }
+// A scheme that joins gets its word here.
+pub(crate) fn scheme_word(kind: Kind) -> &'static [u8]
+    ensures value { result.now ≡ scheme_word kind }
+    ensures len { length result.now ≤ 7 }
 {
-    if a.len() != b.len() {
-        return false;
+    match kind {
+        Kind::Catmull => b"catmull",
     }
-    let mut i = 0;
-    while i < a.len() {
-        if a[i] != b[i] {
-            return false;
-        }
-        i += 1;
-    }
-    true
 }
 
-// The scheme of a word. A scheme that joins gets its word here.
-pub fn scheme_asked(word: &[u8]) -> SchemeAsked
+pub(crate) fn flag_word(flag: bool) -> &'static [u8]
+    ensures value { result.now ≡ flag_word flag }
+    ensures len { length result.now ≤ 6 }
+{
+    if flag { b"update" } else { b"keep" }
+}
+
+// The scheme of a word.
+pub fn scheme_asked(word: &[u8]) -> Option<Kind>
     ensures { result ≡ scheme_asked word.now }
 {
-    if same_bytes(word, b"catmull") {
-        return SchemeAsked::Scheme(Kind::Catmull);
-    }
-    SchemeAsked::NoScheme
+    (word == scheme_word(Kind::Catmull)).then_some(Kind::Catmull)
 }
 
 // Whether old points move.
-pub fn flag_asked(word: &[u8]) -> FlagAsked
+pub fn flag_asked(word: &[u8]) -> Option<bool>
     ensures { result ≡ flag_asked word.now }
 {
-    if same_bytes(word, b"update") {
-        return FlagAsked::Flag(true);
+    if word == flag_word(true) {
+        Some(true)
+    } else if word == flag_word(false) {
+        Some(false)
+    } else {
+        None
     }
-    if same_bytes(word, b"keep") {
-        return FlagAsked::Flag(false);
-    }
-    FlagAsked::NoFlag
 }
 
-// A decimal number of one to three digits. Zeros in front are taken; a number over 12 is a number, which the call refuses.
-pub fn passes_asked(word: &[u8]) -> PassesAsked
+// A decimal number of one to three digits. Zeros in front are taken; a number over 12 is a number, which the call refuses. Not `parse`, which takes a sign.
+pub fn passes_asked(word: &[u8]) -> Option<u32>
     ensures { result ≡ passes_asked word.now }
 {
-    if word.len() == 0 {
-        return PassesAsked::NoNumber;
+    if word.is_empty() || 3 < word.len() {
+        return None;
     }
-    if 3 < word.len() {
-        return PassesAsked::NoNumber;
-    }
-    let mut n: u32 = 0;
-    let mut i = 0;
-    while i < word.len() {
-        let d = word[i];
-        if d < 48 {
-            return PassesAsked::NoNumber;
+    let mut n = 0;
+    for d in word {
+        if !d.is_ascii_digit() {
+            return None;
         }
-        if 57 < d {
-            return PassesAsked::NoNumber;
-        }
-        n = 10 * n + ((d - 48) as u32);
-        i += 1;
+        n = 10 * n + (*d - b'0') as u32;
     }
-    PassesAsked::Passes(n)
+    Some(n)
 }

@@ -1,107 +1,54 @@
-// The parts of the input, and what is in them.
+// The input: parts one after the other, each with its length before it, in four bytes.
 
-ghost use Rattle.std.specs.Prelude.{◌≡◌, ◌<◌, ◌≤◌, length, take};
+ghost use Rattle.std.specs.Prelude.{◌≡◌, ◌≤◌, length, take};
 
-use file_read::bytes::{bits, finite_at, number, word};
-use file_read::load::{load_marks, load_words};
+use crate::cell::Cell;
+use file_read::bytes::word;
 use std::io::Read;
 
-// The length of the next part, 0 at the end of the input.
-fn next_length<R: Read>(input: &mut R) -> usize {
-    let mut four = [0u8; 4];
-    let got = host::read_full(input, &mut four);
-    if got < 4 {
-        return 0;
+#[derive(Drop)]
+pub struct Parts<R> {
+    from: R,
+    space: [u8; 65536],
+}
+
+impl<R: Read> Parts<R> {
+    pub fn new(from: R) -> Parts<R> {
+        Parts {
+            from,
+            space: [0; 65536],
+        }
     }
-    word(&four, 0)
-}
 
-// The next n bytes.
-fn fill<R: Read>(input: &mut R, space: &mut [u8], n: usize)
-    requires { n ≤ length space.old }
-{
-    host::read_full(input, &mut space[..n]);
-}
-
-fn least(n: usize, s: &[u8]) -> usize
-    ensures upper_bound { result ≤ length s.now }
-    ensures value { result ≡ length (take result s.now) }
-{
-    if n < s.len() {
-        return n;
+    // The length of the next part, 0 at the end of the input.
+    fn next_length(&mut self) -> usize {
+        let mut four = [0u8; 4];
+        let got = host::read_full(&mut self.from, &mut four);
+        if got < 4 { 0 } else { word(&four, 0) }
     }
-    s.len()
-}
 
-// The next part, at the start of `space`, which is large enough for it: its length.
-pub fn read_part<R: Read>(input: &mut R, space: &mut [u8]) -> usize
-    ensures upper_bound { result ≤ length space.new }
-    ensures value { result ≡ length (take result space.new) }
-{
-    let n = least(next_length(input), space);
-    fill(input, space, n);
-    n
-}
-
-// The i-th word of a part, 0 past its end.
-pub fn word_in(part: &[u8], i: usize) -> usize
-    ensures { result < 4294967296 }
-{
-    if part.len() / 4 <= i {
-        return 0;
+    // The next part, at the start of a slice that is large enough for it: its length.
+    pub fn read(&mut self, into: &mut [u8]) -> usize
+        ensures { result ≤ length into.new }
+    {
+        let n = self.next_length().min(into.len());
+        host::read_full(&mut self.from, &mut into[..n]);
+        n
     }
-    word(part, 4 * i)
-}
 
-// The bits of the i-th number of a part, 0 past its end.
-pub fn bits_in(part: &[u8], i: usize) -> u64 {
-    if part.len() / 8 <= i {
-        return 0;
+    // The next part, which is not larger than the space.
+    pub fn part(&mut self) -> &[u8] {
+        let n = self.next_length().min(65536);
+        let space = &mut self.space[..];
+        host::read_full(&mut self.from, &mut space[..n]);
+        &self.space[..n]
     }
-    bits(part, 8 * i)
-}
 
-// The number with these bits, which are those of an infinity or a NaN.
-fn not_finite(b: u64) -> f64 {
-    if b == 9218868437227405312 {
-        return 1.0 / 0.0;
+    // The next part laid into a slice, with zeros after it.
+    pub fn lay<T: Cell>(&mut self, into: &mut [T]) {
+        let part = self.part();
+        for (i, x) in into.iter_mut().enumerate() {
+            *x = T::from_bits(T::bits_in(part, i).unwrap_or(0));
+        }
     }
-    if b == 18442240474082181120 {
-        return -1.0 / 0.0;
-    }
-    0.0 / 0.0
-}
-
-// The i-th number of a part, 0 past its end.
-fn number_in(part: &[u8], i: usize) -> f64 {
-    if part.len() / 8 <= i {
-        return 0.0;
-    }
-    if finite_at(part, 8 * i) {
-        return number(part, 8 * i);
-    }
-    not_finite(bits(part, 8 * i))
-}
-
-fn load_numbers(part: &[u8], into: &mut [f64]) {
-    let mut i = 0;
-    while i < into.len() {
-        into[i] = number_in(part, i);
-        i += 1;
-    }
-}
-
-pub fn take_words<R: Read>(input: &mut R, space: &mut [u8], into: &mut [u32]) {
-    let n = read_part(input, space);
-    load_words(&space[..n], 0, n / 4, into);
-}
-
-pub fn take_marks<R: Read>(input: &mut R, space: &mut [u8], into: &mut [u8]) {
-    let n = read_part(input, space);
-    load_marks(&space[..n], 0, n, into);
-}
-
-pub fn take_numbers<R: Read>(input: &mut R, space: &mut [u8], into: &mut [f64]) {
-    let n = read_part(input, space);
-    load_numbers(&space[..n], into);
 }

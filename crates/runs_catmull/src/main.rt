@@ -12,81 +12,58 @@
 
 #![tactic(auto)]
 
-mod expect;
+mod case;
+mod cell;
 mod input;
-mod junk;
+mod judge;
 mod replay;
 
-ghost use Rattle.std.specs.Prelude.{◌≡◌, ◌≤◌, length};
+ghost use Rattle.std.specs.Prelude.{◌≡◌, ◌≤◌, IfSome};
 
-use crate::input::read_part;
+use crate::case::Head;
+use crate::input::Parts;
 use crate::replay::replay;
 use std::io;
 use std::io::Read;
 
-fn name_space() -> [u8; 64]
-    ensures { 64 ≡ length result }
+// The next case, if there is one: how many differences there are.
+fn step<R: Read, P: Print>(parts: &mut Parts<R>, out: &P) -> Option<u32>
+    ensures { IfSome result (λ d. d ≤ 9) }
 {
-    [0; 64]
-}
-
-fn head_space() -> [u8; 112]
-    ensures { 112 ≡ length result }
-{
-    [0; 112]
-}
-
-// The next case: how many differences there are, at most 9; 10 at the end of the input.
-fn step<R: Read, P: Print>(input: &mut R, out: &P, space: &mut [u8]) -> u32
-    ensures { result ≤ 10 }
-{
-    let mut name = name_space();
-    let n = read_part(input, &mut name);
+    let mut name = [0u8; 64];
+    let n = parts.read(&mut name);
     if n == 0 {
-        return 10;
+        return None;
     }
-    let mut head = head_space();
-    read_part(input, &mut head);
-    replay(input, out, &name[..n], &head, space)
+    let mut head = [0u8; 112];
+    parts.read(&mut head);
+    Some(replay(parts, out, &name[..n], &Head::new(&head)))
 }
 
 // Cases, and the differences in all of them.
-#[derive(Clone, Copy)]
 struct Total {
     cases: u32,
     differences: u32,
 }
 
 // All cases, of which there are fewer than 1000.
-fn run<R: Read, P: Print>(input: &mut R, out: &P, space: &mut [u8]) -> Total {
-    let mut cases: u32 = 0;
-    let mut differences: u32 = 0;
-    while cases < 1000 {
-        let d = step(input, out, space);
-        if d == 10 {
-            return Total {
-                cases: cases,
-                differences: differences,
-            };
-        }
-        differences += d;
-        cases += 1;
+fn run<R: Read, P: Print>(parts: &mut Parts<R>, out: &P) -> Total {
+    let mut total = Total {
+        cases: 0,
+        differences: 0,
+    };
+    for _ in 0..1000u32 {
+        let Some(d) = step(parts, out) else {
+            break;
+        };
+        total.cases += 1;
+        total.differences += d;
     }
-    Total {
-        cases: cases,
-        differences: differences,
-    }
-}
-
-fn print_total<P: Print>(out: &P, t: Total) -> io::Result<()> {
-    out.print(t.cases)?;
-    out.write_all(b" cases, ")?;
-    out.print(t.differences)?;
-    out.write_all(b" differences\n")
+    total
 }
 
 fn main(rt: HostRuntime) -> io::Result<()> {
-    let mut space = host::large_buffer();
-    let total = run(&mut rt.stdin(), &rt, &mut space);
-    print_total(&rt, total)
+    let mut parts = Parts::new(rt.stdin());
+    let Total { cases, differences } = run(&mut parts, &rt);
+    println!(rt; "{cases} cases, {differences} differences")
 }

@@ -6,112 +6,72 @@
 ghost use Rattle.std.specs.Prelude.{◌≡◌, ◌≤◌, length};
 
 use file_read::bytes::word;
-use file_read::read::{Reading, read};
-use scope::answers::{Refusal, in_numbers};
+use file_read::lent::Lent;
+use file_read::read::read;
+use scope::answers::{Refusal, Said};
 use std::io;
 use std::io::Read;
 
-// Room for the largest recorded mesh.
-fn words() -> [u32; 1024]
-    ensures { 1024 ≡ length result }
-{
-    [0; 1024]
-}
-
-fn marks() -> [u8; 128]
-    ensures { 128 ≡ length result }
-{
-    [0; 128]
-}
-
-fn numbers() -> [f64; 384]
-    ensures { 384 ≡ length result }
-{
-    [0.0; 384]
-}
-
-fn print_value<P: Print>(out: &P, x: u32) -> io::Result<()> {
-    out.write_all(b" ")?;
-    out.print(x)
-}
-
 fn print_refusal<P: Print>(out: &P, r: Refusal) -> io::Result<()> {
-    let s = in_numbers(r);
-    out.print(s.number)?;
-    if s.number == 3 {
-        print_value(out, s.values[0])?;
-        print_value(out, s.values[1])?;
-        print_value(out, s.values[2])?;
+    let Said { number, values } = Said::from(r);
+    if number != 3 {
+        return println!(out; "{number}");
     }
-    out.write_all(b"\n")
+    let [rule, kind, index] = values;
+    println!(out; "{number} {rule} {kind} {index}")
 }
 
+// The arrays have room for the largest recorded mesh.
 fn print_answer<P: Print>(out: &P, file: &[u8]) -> io::Result<()> {
-    let mut outs = words();
-    let mut edges = words();
-    let mut faces = words();
-    let mut vmarks = marks();
-    let mut emarks = marks();
-    let mut fmarks = marks();
-    let mut points = numbers();
-    match read(
-        file,
-        &mut outs,
-        &mut edges,
-        &mut faces,
-        &mut vmarks,
-        &mut emarks,
-        &mut fmarks,
-        &mut points,
-    ) {
-        Reading::Read(_) => out.write_all(b"0\n"),
-        Reading::Refused(r) => print_refusal(out, r),
+    let mut outs = [0; 1024];
+    let mut edges = [0; 1024];
+    let mut faces = [0; 1024];
+    let mut vmarks = [0; 128];
+    let mut emarks = [0; 128];
+    let mut fmarks = [0; 128];
+    let mut points = [0.0; 384];
+    let mut cage = Lent {
+        outs: &mut outs,
+        edges: &mut edges,
+        faces: &mut faces,
+        vmarks: &mut vmarks,
+        emarks: &mut emarks,
+        fmarks: &mut fmarks,
+        points: &mut points,
+    };
+    match read(file, &mut cage) {
+        Ok(_) => println!(out; "0"),
+        Err(r) => print_refusal(out, r),
     }
 }
 
-// The length of the next file; more than there can be at the end of the input.
-fn next_length<R: Read>(input: &mut R) -> usize {
+// The next file, read into `space`, if there is one and it leaves room there.
+fn next_file<'a, R: Read>(input: &mut R, space: &'a mut [u8]) -> Option<&'a [u8]> {
     let mut four = [0u8; 4];
-    let got = host::read_full(input, &mut four);
-    if got < 4 {
-        return 65536;
+    if host::read_full(input, &mut four) < 4 {
+        return None;
     }
-    word(&four, 0)
-}
-
-// The next n bytes, if there are so many.
-fn fill<R: Read>(input: &mut R, space: &mut [u8], n: usize) -> bool
-    requires { n ≤ length space.old }
-{
-    let got = host::read_full(input, &mut space[..n]);
-    n <= got
-}
-
-// The next case, read into `space`; whether there was one.
-fn step<R: Read, P: Print>(input: &mut R, out: &P, space: &mut [u8]) -> io::Result<bool> {
-    let n = next_length(input);
+    let n = word(&four, 0);
     if space.len() <= n {
-        return Ok(false);
+        return None;
     }
-    if !fill(input, space, n) {
-        return Ok(false);
+    if host::read_full(input, &mut space[..n]) < n {
+        return None;
     }
-    print_answer(out, &space[..n])?;
-    Ok(true)
+    Some(&space[..n])
 }
 
 fn run<R: Read, P: Print>(input: &mut R, out: &P, space: &mut [u8]) -> io::Result<()> {
-    let mut left: u32 = 1000;
-    while 0 < left {
-        if !step(input, out, space)? {
-            return Ok(());
-        }
-        left -= 1;
+    for _ in 0..1000 {
+        let Some(file) = next_file(input, space) else {
+            break;
+        };
+        print_answer(out, file)?;
     }
     Ok(())
 }
 
 fn main(rt: HostRuntime) -> io::Result<()> {
-    let mut space = host::large_buffer();
+    let mut space = host::buffer::<65536>();
     run(&mut rt.stdin(), &rt, &mut space)
 }

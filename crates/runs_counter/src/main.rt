@@ -8,7 +8,7 @@ use std::rt::{Env, Files};
 
 // A file that is not opened gets a line on standard error.
 fn run<R: Env + Files + Print, E: Print>(rt: &R, err: &E, i: usize) -> io::Result<()> {
-    let mut path = host::buffer();
+    let mut path = host::buffer::<4096>();
     let n = host::argument(rt, i, &mut path);
     match host::open(rt, &path[..n]) {
         Ok(file) => count(rt, &path[..n], file),
@@ -28,15 +28,8 @@ fn count<P: Print, F: Read + Drop>(out: &P, path: &[u8], mut from: F) -> io::Res
 
 fn main(rt: HostRuntime) -> io::Result<()> {
     let err = rt.stderr();
-    run(&rt, &err, 1)?;
-    run(&rt, &err, 2)?;
-    run(&rt, &err, 3)?;
-    run(&rt, &err, 4)?;
-    run(&rt, &err, 5)?;
-    run(&rt, &err, 6)?;
-    run(&rt, &err, 7)?;
-    run(&rt, &err, 8)?;
-    run(&rt, &err, 9)?;
-    run(&rt, &err, 10)?;
-    run(&rt, &err, 11)
+    for i in 1..=11 {
+        run(&rt, &err, i)?;
+    }
+    Ok(())
 }

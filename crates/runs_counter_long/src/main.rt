@@ -1,4 +1,5 @@
-// The counter on an input of one byte more than it takes: refused before all else.
+// The counter on an input of one byte more than it takes: refused before all else. The body is the program `counter`'s, as each program has
+// one input.
 
 #![tactic(auto)]
 

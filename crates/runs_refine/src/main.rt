@@ -6,9 +6,8 @@
 ghost use Rattle.std.specs.Prelude.{◌≡◌, ◌≤◌, length, take};
 
 use call_room::kind::Kind;
-use refine_job::Refined;
 use refine_room::run;
-use refine_words::words::same_bytes;
+use scope::answers::Refusal;
 use std::io;
 use std::rt::{Env, Files};
 
@@ -23,55 +22,36 @@ fn load<R: Files>(rt: &R, path: &[u8], buf: &mut [u8]) -> usize
     }
 }
 
-fn say<P: Print>(out: &P, path: &[u8], flag: bool, same: bool, size: usize) -> io::Result<()> {
-    out.write_all(path)?;
-    if flag {
-        out.write_all(b" update: ")?;
-    } else {
-        out.write_all(b" keep: ")?;
-    }
-    if same {
-        out.write_all(b"the same ")?;
-    } else {
-        out.write_all(b"not the same ")?;
-    }
-    out.print(size)?;
-    out.write_all(b" bytes\n")
+// Whether the two files are the same, and the size of the first, unless a run is refused.
+fn compare<R: Files>(rt: &R, path: &[u8], flag: bool) -> Result<(bool, usize), Refusal> {
+    let mut two = host::buffer::<65536>();
+    let n = load(rt, path, &mut two);
+    let mut one = host::buffer::<65536>();
+    let m = load(rt, path, &mut one);
+    let twice = run(Kind::Catmull, 2, flag, &mut two, n)?;
+    let first = run(Kind::Catmull, 1, flag, &mut one, m)?;
+    let second = run(Kind::Catmull, 1, first.next, &mut one, first.size)?;
+    Ok((two[..twice.size] == one[..second.size], twice.size))
 }
 
-fn compare<R: Files + Print>(rt: &R, path: &[u8], flag: bool) -> io::Result<()> {
-    let mut two = host::large_buffer();
-    let n = load(rt, path, &mut two);
-    let mut one = host::large_buffer();
-    let m = load(rt, path, &mut one);
-    let Refined::Written(size, _, _, _) = run(Kind::Catmull, 2, flag, &mut two, n) else {
-        return say(rt, path, flag, false, 0);
-    };
-    let Refined::Written(half, _, next, _) = run(Kind::Catmull, 1, flag, &mut one, m) else {
-        return say(rt, path, flag, false, 0);
-    };
-    let Refined::Written(whole, _, _, _) = run(Kind::Catmull, 1, next, &mut one, half) else {
-        return say(rt, path, flag, false, 0);
-    };
-    say(
-        rt,
-        path,
-        flag,
-        same_bytes(&two[..size], &one[..whole]),
-        size,
-    )
+fn say<R: Files + Print>(rt: &R, path: &[u8], flag: bool) -> io::Result<()> {
+    let (same, size) = compare(rt, path, flag).unwrap_or((false, 0));
+    let asked = if flag { "update" } else { "keep" };
+    let found = if same { "the same" } else { "not the same" };
+    rt.write_all(path)?;
+    println!(rt; " {asked}: {found} {size} bytes")
 }
 
 fn both<R: Env + Files + Print>(rt: &R, i: usize) -> io::Result<()> {
-    let mut path = host::buffer();
+    let mut path = host::buffer::<4096>();
     let n = host::argument(rt, i, &mut path);
-    compare(rt, &path[..n], true)?;
-    compare(rt, &path[..n], false)
+    say(rt, &path[..n], true)?;
+    say(rt, &path[..n], false)
 }
 
 fn main(rt: HostRuntime) -> io::Result<()> {
-    both(&rt, 1)?;
-    both(&rt, 2)?;
-    both(&rt, 3)?;
-    both(&rt, 4)
+    for i in 1..=4 {
+        both(&rt, i)?;
+    }
+    Ok(())
 }

@@ -1,15 +1,14 @@
 -- The words in which recorded cases are put: meshes, lent slices that hold sevens, what a call leaves. Written by tools/theorems.py. Assumes nothing.
 use mathlib.Core.Bool.{Bool}
 use mathlib.Core.List.{List, ◌++◌}
-use mathlib.Core.Option.{Option}
+use Rattle.std.specs.Prelude.{Option, Ok, Err}
 use Prim.Native.Nat.{ℕ, ◌+◌, ◌*◌}
 use lib.IntN.{pos}
 use lib.ListN.{length, replicate}
 use lib.Ieee.{Float, binary64, of_int}
 use Rattle.scope.specs.declared.answers.Fault.{Fault}
 use Rattle.scope.specs.declared.answers.Refusal.{Refusal}
-use Rattle.scope.specs.declared.answers.Subdivided.TheVariants.{Done, Refused}
-use Rattle.scope.specs.declared.answers.Edited.{Edited}
+use Rattle.scope.specs.Answers.{Edited}
 use Rattle.scope.specs.Call.{Outcome, Scheme, refusal}
 use Rattle.scope.specs.Check.{fault}
 use Rattle.scope.specs.EditCalls.{Own, EditOutcome}
@@ -58,7 +57,7 @@ abbrev pub done : Given → Bool → ℕ → Outcome
 done g flag w =
     let s = g.slices in
     record {
-      answer = Done g.counts flag;
+      answer = Ok (g.counts, flag);
       left = record {
         result = record {
           outs = three-more s.outs;
@@ -74,7 +73,7 @@ done g flag w =
     }
 
 abbrev pub refused : Refusal → Buffers → Outcome
-refused r b = record { answer = Refused r; left = b }
+refused r b = record { answer = Err r; left = b }
 
 -- the refusal where there is room for a million of each
 abbrev pub vast : Sizes

@@ -1,17 +1,23 @@
 -- The answers' numbers and values (document 01, section 4). Assumes nothing.
-use Rattle.std.specs.Prelude.{ℕ, [], ◌∷◌, Bool, true, false}
-use Rattle.std.proofs.Math.Option.{Option, none, some}
+use Rattle.std.specs.Prelude.{ℕ, [], ◌∷◌, Bool, true, false, ⊤, Option, None, Some, Result, Ok, Err}
+use Rattle.scope.specs.declared.records.Counts.{Counts}
 use Rattle.scope.specs.declared.answers.Place.{Place}
 use Rattle.scope.specs.declared.answers.Place.TheVariants.{AtVertex, AtHalfedge, AtEdge, AtFace}
 use Rattle.scope.specs.declared.answers.Refusal.{Refusal}
 use Rattle.scope.specs.declared.answers.Refusal.TheVariants.{TooManyPasses, ShortSlice, NotConsistent, MarkedDeleted, NoRoom, NoWeight, BadHandle, CannotInsertEdge, HalfedgesNotInTheSameLoop, NotDeletedFace, ComplexVertex, CannotSwapBoundaryEdge, WouldBreak, BadContents, NotFinite}
 use Rattle.scope.specs.declared.answers.Said.{Said}
-use Rattle.scope.specs.declared.answers.Checked.{Checked}
-use Rattle.scope.specs.declared.answers.Checked.TheVariants.{Sound, Unsound}
-use Rattle.scope.specs.declared.answers.Subdivided.{Subdivided}
-use Rattle.scope.specs.declared.answers.Subdivided.TheVariants.{Done, Refused}
-use Rattle.scope.specs.declared.answers.Edited.{Edited}
-use Rattle.scope.specs.declared.answers.Edited.TheVariants.{Changed, Unchanged}
+
+-- what a check answers
+abbrev pub Checked : Type 0
+Checked = Result ⊤ Refusal
+
+-- a subdivision: the counts of the result and the flag for the next call
+abbrev pub Subdivided : Type 0
+Subdivided = Result (Counts × Bool) Refusal
+
+-- an edit: the counts afterwards, and the new halfedge or edge where the source returns one, else 0
+abbrev pub Edited : Type 0
+Edited = Result (Counts × ℕ) Refusal
 
 -- the kind of a place, as a number, and its index
 abbrev pub kind_of : Place → ℕ
@@ -49,27 +55,27 @@ said_of NotFinite = told_of 16 0 0 0
 
 -- §4: 0 is done
 unfoldable pub said_checked : Checked → Said
-said_checked Sound = told_of 0 0 0 0
-said_checked (Unsound r) = said_of r
+said_checked (Ok x) = told_of 0 0 0 0
+said_checked (Err r) = said_of r
 
 unfoldable pub said_subdivided : Subdivided → Said
-said_subdivided (Done c flag) = told_of 0 0 0 0
-said_subdivided (Refused r) = said_of r
+said_subdivided (Ok x) = told_of 0 0 0 0
+said_subdivided (Err r) = said_of r
 
 unfoldable pub said_edited : Edited → Said
-said_edited (Changed c x) = told_of 0 0 0 0
-said_edited (Unchanged r) = said_of r
+said_edited (Ok x) = told_of 0 0 0 0
+said_edited (Err r) = said_of r
 
 -- ---- refusals in order: the first that is given
 infixr 10 ◌else◌
 abbrev pub ◌else◌ : {A : Type 0} → Option A → A → A
-none else a = a
-some r else a = r
+None else a = a
+Some r else a = r
 
 abbrev pub refuse_if : Bool → Refusal → Option Refusal
-refuse_if true r = some r
-refuse_if false r = none
+refuse_if true r = Some r
+refuse_if false r = None
 
 abbrev pub refuse : {A : Type 0} → Option A → (A → Refusal) → Option Refusal
-refuse none r = none
-refuse (some x) r = some (r x)
+refuse None r = None
+refuse (Some x) r = Some (r x)

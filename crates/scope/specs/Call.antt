@@ -1,13 +1,11 @@
 -- A subdivision call (document 01, sections 3 and 4), over a scheme given by its parts: its answer for every input and what it leaves in every
 -- slice. Links, counts and answers are computed from links, marks, sizes, passes and the flag alone (section 7). Assumes nothing.
-use Rattle.std.specs.Prelude.{ℕ, zero, suc, ◌+◌, ◌*◌, Bool, not, ◌&&◌, List, leb, ltb, length, Float}
-use Rattle.std.proofs.Math.Option.{Option, none, some}
+use Rattle.std.specs.Prelude.{ℕ, zero, suc, ◌+◌, ◌*◌, Bool, not, ◌&&◌, List, leb, ltb, length, Float, Option, None, Some, Ok, Err}
 use Rattle.scope.specs.declared.records.Counts.{Counts}
 use Rattle.scope.specs.declared.answers.Place.{Place}
 use Rattle.scope.specs.declared.answers.Refusal.{Refusal}
 use Rattle.scope.specs.declared.answers.Refusal.TheVariants.{TooManyPasses, ShortSlice, NotConsistent, MarkedDeleted, NoRoom, NoWeight}
-use Rattle.scope.specs.declared.answers.Subdivided.{Subdivided}
-use Rattle.scope.specs.declared.answers.Subdivided.TheVariants.{Done, Refused}
+use Rattle.scope.specs.Answers.{Subdivided}
 use Rattle.scope.specs.Lists.{if, ◌or_else◌}
 use Rattle.scope.specs.Links.{Links, Marks}
 use Rattle.scope.specs.Check.{fault, marked}
@@ -29,8 +27,8 @@ pub record Scheme : Type 0 where
   pub weightless : Bool → Links → Option ℕ
 
 abbrev pub in_pass : ℕ → Option ℕ → Option (ℕ × ℕ) → Option (ℕ × ℕ)
-in_pass n none later = later
-in_pass n (some v) later = some (n, v)
+in_pass n None later = later
+in_pass n (Some v) later = Some (n, v)
 
 -- what the first pass starts from
 pub record Start : Type 0 where
@@ -58,7 +56,7 @@ module _ (S : Scheme) where
 
   -- §4, answer 6: the first pass, counted from n, and its lowest vertex
   unfoldable pub heavy : ℕ → ℕ → Bool → Links → Option (ℕ × ℕ)
-  heavy zero n flag m = none
+  heavy zero n flag m = None
   heavy (suc k) n flag m =
       let later = heavy k (suc n) (S.turn flag) (S.pass flag m) in
       in_pass n (S.weightless flag m) later
@@ -84,7 +82,7 @@ module _ (S : Scheme) where
   enough k flag m room points work = fits_with (final k flag m) room points && leb (work_needed k flag m) work
 
   unfoldable pub unwanted : ℕ → Marks → Option Place
-  unwanted zero d = none
+  unwanted zero d = None
   unwanted (suc k) d = marked d
 
   unfoldable pub overweight : ℕ → Bool → Links → Option (ℕ × ℕ)
@@ -131,8 +129,8 @@ pub record Outcome : Type 0 where
   pub left : Buffers
 
 unfoldable pub ended : Option Refusal → Given → Bool → Buffers → Outcome
-ended none made flag b = record { answer = Done made.counts flag; left = filled made.counts made.slices made.points b }
-ended (some r) made flag b = record { answer = Refused r; left = left_after r b }
+ended None made flag b = record { answer = Ok (made.counts, flag); left = filled made.counts made.slices made.points b }
+ended (Some r) made flag b = record { answer = Err r; left = left_after r b }
 
 module _ (S : Scheme) where
   unfoldable pub call : ℕ → Bool → Given → Buffers → Outcome
@@ -144,8 +142,8 @@ module _ (S : Scheme) where
 
   -- k passes more on what a call left, with its counts and flag, unless it was refused
   unfoldable pub then : Subdivided → ℕ → Outcome → Buffers → Outcome
-  then (Done c flag) k o b = call k flag (record { counts = c; slices = o.left.result; points = o.left.points }) b
-  then (Refused r) k o b = o
+  then (Ok (c, flag)) k o b = call k flag (record { counts = c; slices = o.left.result; points = o.left.points }) b
+  then (Err r) k o b = o
 
   unfoldable pub onward : ℕ → Outcome → Buffers → Outcome
   onward k o b = then o.answer k o b

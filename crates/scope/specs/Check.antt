@@ -1,6 +1,5 @@
 -- Consistency (document 01, section 2): the lowest broken rule of C1 to C9 and, under it, the first place; and what is marked deleted. Assumes nothing.
-use Rattle.std.specs.Prelude.{ℕ, ◌*◌, Bool, true, not, ◌&&◌, ◌||◌, List, map, eqb, leb, get_or, length}
-use Rattle.std.proofs.Math.Option.{Option, none, some}
+use Rattle.std.specs.Prelude.{ℕ, ◌*◌, Bool, true, not, ◌&&◌, ◌||◌, List, map, eqb, leb, get_or, length, Option, None, Some}
 use Rattle.scope.specs.declared.answers.Place.{Place}
 use Rattle.scope.specs.declared.answers.Place.TheVariants.{AtVertex, AtHalfedge, AtEdge, AtFace}
 use Rattle.scope.specs.declared.answers.Fault.{Fault}
@@ -8,8 +7,8 @@ use Rattle.scope.specs.Lists.{if, has, distinct, first, all, ◌or_else◌}
 use Rattle.scope.specs.Links.{Links, Marks, partner, face, head, next, prev, out, start, tail, rim, isolated, loop, around, is_v, is_h, is_f}
 
 abbrev pub broken : ℕ → (ℕ → Place) → Option ℕ → Option Fault
-broken r p none = none
-broken r p (some i) = some (record { rule = r; place = p i })
+broken r p None = None
+broken r p (Some i) = Some (record { rule = r; place = p i })
 
 module _ (m : Links) (k : Marks) where
   -- every halfedge that is there and passes the first test passes the second
@@ -75,8 +74,8 @@ module _ (m : Links) (k : Marks) where
 
 -- §4, answer 4: what is marked deleted: faces, then edges, then vertices, lowest index
 abbrev pub spot : (ℕ → Place) → Option ℕ → Option Place
-spot p none = none
-spot p (some i) = some (p i)
+spot p None = None
+spot p (Some i) = Some (p i)
 
 -- the first byte that is not 0
 unfoldable pub set_mark : List ℕ → Option ℕ

@@ -1,11 +1,9 @@
 -- The edits as calls on their own mesh (document 01, section 4): their answers in order, and what they leave in every slice. Assumes nothing.
-use Rattle.std.specs.Prelude.{ℕ, ◌+◌, ◌-◌, ◌*◌, Bool, true, false, not, ◌&&◌, ◌||◌, List, ◌++◌, map, eqb, ltb, length, replicate}
-use Rattle.std.proofs.Math.Option.{Option, none, some}
+use Rattle.std.specs.Prelude.{ℕ, ◌+◌, ◌-◌, ◌*◌, Bool, true, false, not, ◌&&◌, ◌||◌, List, ◌++◌, map, eqb, ltb, length, replicate, Option, None, Some, Ok, Err}
 use Rattle.scope.specs.declared.records.Counts.{Counts}
 use Rattle.scope.specs.declared.answers.Refusal.{Refusal}
 use Rattle.scope.specs.declared.answers.Refusal.TheVariants.{ShortSlice, NotConsistent, MarkedDeleted, NoRoom, BadHandle, CannotInsertEdge, HalfedgesNotInTheSameLoop, NotDeletedFace, ComplexVertex, CannotSwapBoundaryEdge, WouldBreak}
-use Rattle.scope.specs.declared.answers.Edited.{Edited}
-use Rattle.scope.specs.declared.answers.Edited.TheVariants.{Changed, Unchanged}
+use Rattle.scope.specs.Answers.{Edited}
 use Rattle.scope.specs.Lists.{if, ◌or_else◌, has, put, over}
 use Rattle.scope.specs.Links.{Links, Marks, NONE, face, head, next, prev, start, tail, rim, rim_edge, isolated, loop, is_v, is_e, is_h, is_f}
 use Rattle.scope.specs.Check.{fault, marked}
@@ -59,11 +57,11 @@ written c s old =
 
 -- §4: a refusal changes nothing
 unfoldable pub edit_ended : Option Refusal → Links → Marks → ℕ → Own → EditOutcome
-edit_ended none m k value o = record {
-  answer = Changed (counts_of m) value;
+edit_ended None m k value o = record {
+  answer = Ok (counts_of m, value);
   left = record { counts = counts_of m; slices = written (counts_of m) (slices_of m k) o.slices };
 }
-edit_ended (some r) m k value o = record { answer = Unchanged r; left = o }
+edit_ended (Some r) m k value o = record { answer = Err r; left = o }
 
 module _ (E : Edit) where
   -- §4: the order is 2, 3, 4, 7, then 8 to 12 in the source's order, 14, 5
@@ -71,7 +69,7 @@ module _ (E : Edit) where
   edit_refusal m k own =
       refuse_if (not (fits (counts_of m) own)) ShortSlice
       or_else refuse (fault m k) NotConsistent
-      or_else refuse (if E.whole (marked k) none) MarkedDeleted
+      or_else refuse (if E.whole (marked k) None) MarkedDeleted
       or_else E.denied m k
       or_else refuse_if (not (fits (E.wanted m) own)) NoRoom
 
@@ -151,7 +149,7 @@ swap_cw_edit e = swap_by_edit (λ m h. tail m (prev m h)) swap_cw e
 unfoldable pub triangulate_all : Edit
 triangulate_all = record {
   whole = true;
-  denied = λ m k. none;
+  denied = λ m k. None;
   wanted = λ m. counted (triangulated (tally_of m));
   links = triangulate;
   marks = λ k. k;

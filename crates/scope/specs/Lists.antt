@@ -1,6 +1,5 @@
 -- Lists as what slices hold, and counting loops: the words in which document 01 is put here. Assumes nothing.
-use Rattle.std.specs.Prelude.{ℕ, zero, suc, ◌+◌, Bool, true, false, not, ◌&&◌, List, [], ◌∷◌, eqb}
-use Rattle.std.proofs.Math.Option.{Option, none, some}
+use Rattle.std.specs.Prelude.{ℕ, zero, suc, ◌+◌, Bool, true, false, not, ◌&&◌, List, [], ◌∷◌, eqb, Option, None, Some}
 
 abbrev pub if : {A : Type 0} → Bool → A → A → A
 if true a b = a
@@ -9,8 +8,8 @@ if false a b = b
 infixr 20 ◌or_else◌
 -- the first that is there
 abbrev pub ◌or_else◌ : {A : Type 0} → Option A → Option A → Option A
-none or_else b = b
-some a or_else b = some a
+None or_else b = b
+Some a or_else b = Some a
 
 -- a store; one past the end makes the list longer, with zeros between
 unfoldable pub put : List ℕ → ℕ → ℕ → List ℕ
@@ -63,8 +62,8 @@ distinct (x ∷ l) = not (has x l) && distinct l
 
 -- of the numbers below n that are there, the first that fails the test
 unfoldable pub first : ℕ → (ℕ → Bool) → (ℕ → Bool) → Option ℕ
-first zero there ok = none
-first (suc n) there ok = first n there ok or_else if (there n && not (ok n)) (some n) none
+first zero there ok = None
+first (suc n) there ok = first n there ok or_else if (there n && not (ok n)) (Some n) None
 
 -- every number below n passes
 unfoldable pub all : ℕ → (ℕ → Bool) → Bool

@@ -1,6 +1,5 @@
 -- The links of one pass of each scheme (document 01, section 3). Assumes nothing.
-use Rattle.std.specs.Prelude.{ℕ, suc, ◌+◌, ◌*◌, Bool, List, [], ◌∷◌, ltb}
-use Rattle.std.proofs.Math.Option.{Option, none, some}
+use Rattle.std.specs.Prelude.{ℕ, suc, ◌+◌, ◌*◌, Bool, List, [], ◌∷◌, ltb, Option, None, Some}
 use Rattle.scope.specs.Lists.{each, if}
 use Rattle.scope.specs.Links.{Links, partner, head, next, prev, start, rim, rim_edge, loop, ◌▸◌, out_is, more}
 use Rattle.scope.specs.Edits.{split_edge, cut_off, Part, fan, split_face, swap_ccw}
@@ -41,8 +40,8 @@ loop_pass m = each m.nf (loop_face m.nv) (split_edges m)
 
 -- ---- sqrt3: every face gets its new points, then every old edge with two faces is swapped ccw in index order
 unfoldable pub rim_of : Links → List ℕ → Option ℕ
-rim_of m [] = none
-rim_of m (h ∷ hs) = let r = rim_of m hs in if (rim m (partner h)) (some h) r
+rim_of m [] = None
+rim_of m (h ∷ hs) = let r = rim_of m hs in if (rim m (partner h)) (Some h) r
 
 -- the first halfedge of face f whose partner is on the rim
 unfoldable pub rim_side : ℕ → Links → Option ℕ
@@ -61,7 +60,7 @@ unfoldable pub centre_face : ℕ → Links → Links
 centre_face f m = m ▸ split_face f m.nv ▸ more 1 0 0
 
 unfoldable pub sqrt_face : Bool → ℕ → Links → Links
-sqrt_face flag f m = elim (if flag (rim_side f m) none) [ none ↦ centre_face f m | some h ↦ rim_face h m ]
+sqrt_face flag f m = elim (if flag (rim_side f m) None) [ None ↦ centre_face f m | Some h ↦ rim_face h m ]
 
 unfoldable pub swap_inner : ℕ → Links → Links
 swap_inner e m = let swapped = swap_ccw e m in if (rim_edge m e) m swapped

@@ -1,6 +1,5 @@
 -- The points of one pass of each scheme (document 01, section 3), from the links and points before it. Assumes nothing.
-use Rattle.std.specs.Prelude.{ℕ, suc, ◌+◌, ◌*◌, ◌/◌, Bool, true, not, ◌&&◌, List, [], ◌∷◌, ◌++◌, map, eqb, pos, get_or, length, Float}
-use Rattle.std.proofs.Math.Option.{none, some}
+use Rattle.std.specs.Prelude.{ℕ, suc, ◌+◌, ◌*◌, ◌/◌, Bool, true, not, ◌&&◌, List, [], ◌∷◌, ◌++◌, map, eqb, pos, get_or, length, Float, None, Some}
 use Rattle.std.specs.Float.{nan, binary64}
 use Rattle.std.specs.Float.Ieee.{of_int}
 use Rattle.scope.specs.declared.records.Point.{Point}
@@ -108,9 +107,9 @@ sqrt_vertex flag m ps v = if (rim_vertex m v) (if flag (on_rim sqrt_rim m ps v) 
 -- a face's answer: its centre, or the pair on its rim edge, whose rim halfedge is r
 unfoldable pub sqrt_answer : Bool → Links → List Float → ℕ → FacePoints
 sqrt_answer flag m ps f =
-    elim (if flag (rim_side f m) none) [
-      | none ↦ Centre (face_point m ps f)
-      | some h ↦
+    elim (if flag (rim_side f m) None) [
+      | None ↦ Centre (face_point m ps f)
+      | Some h ↦
           let r = partner h in
           sqrt_pair (point_at ps (head m (next m r))) (point_at ps (head m r)) (point_at ps (tail m r)) (point_at ps (tail m (prev m r)))
     ]

@@ -1,6 +1,5 @@
 -- The three schemes by their parts (document 01, section 3). Assumes nothing.
-use Rattle.std.specs.Prelude.{ℕ, Bool, true, false, not, leb, ltb, length}
-use Rattle.std.proofs.Math.Option.{Option, none, some}
+use Rattle.std.specs.Prelude.{ℕ, Bool, true, false, not, leb, ltb, length, Option, None, Some}
 use Rattle.scope.specs.Lists.{if, only, first}
 use Rattle.scope.specs.Links.{Links, partner, start, rim, rim_vertex, loop, around}
 use Rattle.scope.specs.Edits.{triangulate}
@@ -19,8 +18,8 @@ two_rims m = first m.nf (λ f. true) (λ f. leb (length (only (λ h. rim m (part
 
 -- §3: the flag is made false if any face has more than one rim edge
 abbrev pub settled : Option ℕ → Bool → Bool
-settled none flag = flag
-settled (some f) flag = false
+settled None flag = flag
+settled (Some f) flag = false
 
 -- the flag is the update flag: without it old points are kept
 unfoldable pub catmull : Scheme
@@ -32,7 +31,7 @@ catmull = record {
   smooth = catmull_points;
   grow = λ update. catmull_tally;
   turn = λ update. update;
-  weightless = λ update m. none;
+  weightless = λ update m. None;
 }
 
 unfoldable pub loop_scheme : Scheme
@@ -44,7 +43,7 @@ loop_scheme = record {
   smooth = loop_points;
   grow = λ update. loop_tally;
   turn = λ update. update;
-  weightless = λ update m. let c = crowded m in if update c none;
+  weightless = λ update m. let c = crowded m in if update c None;
 }
 
 -- the flag turns after each pass

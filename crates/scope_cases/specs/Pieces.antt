@@ -1,11 +1,10 @@
 -- K1 to K12 (document 01, section 6), proved in one table under one statement about whole calls. Written by tools/theorems.py. Assumes nothing.
-use Rattle.std.specs.Prelude.{◌≡◌, refl, Bool, true, false, List, [], ◌∷◌, map, ℕ, ℤ, pos, negsuc, replicate, Float}
+use Rattle.std.specs.Prelude.{◌≡◌, refl, Bool, true, false, List, [], ◌∷◌, map, ℕ, ℤ, pos, negsuc, replicate, Float, Ok}
 use Rattle.std.specs.Float.{binary64}
 use Rattle.std.specs.Float.Ieee.{of_int, of_bits, add, sub, mul, div}
 use Rattle.std.specs.Float.Ieee as Ieee
 use Rattle.scope.specs.declared.records.Point.{Point}
-use Rattle.scope.specs.declared.answers.Subdivided.{Subdivided}
-use Rattle.scope.specs.declared.answers.Subdivided.TheVariants.{Done}
+use Rattle.scope.specs.Answers.{Subdivided}
 use Rattle.scope.specs.Answers.{said_checked, said_subdivided, said_edited}
 use Rattle.scope.specs.Call.{Outcome, Scheme, links, points, tally, turned, heavy, begin, final, work_needed, enough, unwanted, overweight, refusal, last_links, last_flag, last_points, last_marks, subdivided, left_after, ended, call, then, onward}
 use Rattle.scope.specs.Check.{every, c1_vertex, c1_halfedge, c1_face, c2, c3, c4, c5, c6, c7, c8, c9, fault, set_mark, marked}
@@ -137,7 +136,7 @@ abbrev put_at : Outcome → ℕ → Row
 put_at o v = puts (point_at o.left.points v)
 
 abbrev counts : ℕ → ℕ → ℕ → Bool → Row
-counts v e f flag = says (Done (record { v = v; e = e; f = f }) flag)
+counts v e f flag = says (Ok (record { v = v; e = e; f = f }, flag))
 
 abbrev at : Float → Float → Float → Row
 at x y z = puts (record { x = x; y = y; z = z })

@@ -1,64 +1,48 @@
--- The search for the first mark that is set. Assumes nothing.
-use Prim.Native.Nat.{ℕ, zero, suc, ◌+◌, ◌≤◌, ◌<◌}
+-- The first mark that is set, by what is known of each place. Assumes nothing.
+use Prim.Native.Nat.{ℕ, zero, suc, ◌≤◌, ◌<◌}
 use mathlib.Core.Path.{◌≡◌, refl, sym, ap, ◌∙◌}
 use mathlib.Core.Logic.{◌≢◌}
 use mathlib.Core.Bool.{Bool, true, false}
 use mathlib.Core.List.{List}
-use mathlib.Core.Option.{none, some}
+use Rattle.std.specs.Prelude.{Option, None, Some}
+use Rattle.std.specs.Option.{MatchOption}
 use native.Mathlib.Omega.{arith}
 use lib.Dec.{eqb}
-use borrow.Author.Tests.{eqb-true, eqb-false, ne_eqb}
+use borrow.Author.Tests.{eqb-true, eqb-false, eq-eqb, ne_eqb}
 use lib.ListN.{length, get_or, take}
 use lib.Seq.{get_or-take, length-take-le}
 use Rattle.scope.specs.Lists.{first}
 use Rattle.scope.specs.Check.{set_mark}
-use Rattle.slices.specs.declared.marks.Mark.TheVariants.{At, Nothing}
-use Rattle.slices.specs.Marks.{found_mark}
 
-fails-next : (n i : ℕ) (ok : ℕ → Bool) (b : Bool) → eqb i n ≡ b → i < suc n → first i (λ j. true) ok ≡ none → ok i ≡ false →
-    (i < n → first i (λ j. true) ok ≡ none → ok i ≡ false → first n (λ j. true) ok ≡ some i) → first (suc n) (λ j. true) ok ≡ some i
+-- all pass
+first-none : (n : ℕ) (ok : ℕ → Bool) → ((k : ℕ) → k < n → ok k ≡ true) → first n (λ j. true) ok ≡ None
 unfolding first
-fails-next n i ok true t l e o before = let p : n ≡ i = sym (eqb-true i n t) in rw (p, e, o)
-fails-next n i ok false t l e o before = let p = eqb-false i n t in rw (before (omega arith) e o)
+first-none zero ok p = refl
+first-none (suc n) ok p = rw (first-none n ok (λ k l. p k (omega arith)), p n (omega arith))
 
--- place i is the first that fails the test
-fails-first : (n i : ℕ) (ok : ℕ → Bool) → i < n → first i (λ j. true) ok ≡ none → ok i ≡ false → first n (λ j. true) ok ≡ some i
+-- i is the first that fails
+first-some : (n i : ℕ) (ok : ℕ → Bool) → i < n → ok i ≡ false → ((k : ℕ) → k < i → ok k ≡ true) → first n (λ j. true) ok ≡ Some i
 unfolding first
-fails-first zero i ok l e o = absurd (omega arith)
-fails-first (suc n) i ok l e o = fails-next n i ok (eqb i n) refl l e o (fails-first n i ok)
+first-some zero i ok l e p = absurd (omega arith)
+first-some (suc n) i ok l e p = go (eqb i n) refl (λ m. first-some n i ok m e p)
+  where
+    go : (b : Bool) → eqb i n ≡ b → (i < n → first n (λ j. true) ok ≡ Some i) → first (suc n) (λ j. true) ok ≡ Some i
+    go true t f = let q : n ≡ i = sym (eqb-true i n t) in rw (q, first-none i ok p, e)
+    go false t f = let q = eqb-false i n t in rw (f (omega arith))
 
-passes-next : (i : ℕ) (ok : ℕ → Bool) → first i (λ j. true) ok ≡ none → ok i ≡ true → first (suc i) (λ j. true) ok ≡ none
-unfolding first
-passes-next i ok e o = rw (e, o)
-
--- none of the first i is set
-pub record NoMark (l : List ℕ) (i : ℕ) : Type 0 where
-  pub none-set : first i (λ j. true) (λ j. eqb (get_or l j 0) 0) ≡ none
-
-pub no-mark-start : (l : List ℕ) → NoMark l 0
-unfolding first
-no-mark-start l = record { none-set = refl }
-
-pub mark-found : (marks : List ℕ) (n : ℕ) {i : ℕ} → NoMark (take n marks) i → i < n → n ≤ length marks → get_or marks i 0 ≢ 0 → At i ≡ found_mark (take n marks)
+pub mark_from_cases : (marks : List ℕ) (n : ℕ) (r : Option ℕ) → n ≤ length marks →
+    MatchOption r ((k : ℕ) → 0 ≤ k → k < n → get_or marks k 0 ≡ 0) (λ i. (0 ≤ i) × (i < n) × (get_or marks i 0 ≢ 0) × ((k : ℕ) → 0 ≤ k → k < i → get_or marks k 0 ≡ 0)) →
+    r ≡ set_mark (take n marks)
 unfolding set_mark
-mark-found marks n {i} c l b x =
-    let e : get_or (take n marks) i 0 ≡ get_or marks i 0 = get_or-take n marks i 0 l in
+mark_from_cases marks n None b p =
     let w : length (take n marks) ≡ n = length-take-le n marks b in
-    let f : first n (λ j. true) (λ j. eqb (get_or (take n marks) j 0) 0) ≡ some i
-    = fails-first n i (λ j. eqb (get_or (take n marks) j 0) 0) l c.none-set (ap (λ y. eqb y 0) e ∙ ne_eqb (get_or marks i 0) 0 x) in
-    rw (w, f)
-
-pub mark_on : (marks : List ℕ) (n : ℕ) {i : ℕ} → NoMark (take n marks) i → i < n → get_or marks i 0 ≡ 0 → NoMark (take n marks) (i + 1)
-mark_on marks n {i} c l x =
-    let e : get_or (take n marks) i 0 ≡ get_or marks i 0 = get_or-take n marks i 0 l in
-    let k : i + 1 ≡ suc i = omega arith in
-    let f = passes-next i (λ j. eqb (get_or (take n marks) j 0) 0) c.none-set (ap (λ y. eqb y 0) (e ∙ x)) in
-    record { none-set = rw k f }
-
-pub mark-none : (marks : List ℕ) (n : ℕ) {i : ℕ} → NoMark (take n marks) i → n ≤ i → i ≤ n → n ≤ length marks → Nothing ≡ found_mark (take n marks)
-unfolding set_mark
-mark-none marks n {i} c l m b =
-    let k : i ≡ n = omega arith in
+    rw (w, first-none n (λ j. eqb (get_or (take n marks) j 0) 0) (λ k l. eq-eqb _ _ (get_or-take n marks k 0 l ∙ p k (omega arith) l)))
+mark_from_cases marks n (Some i) b p =
     let w : length (take n marks) ≡ n = length-take-le n marks b in
-    let f : first n (λ j. true) (λ j. eqb (get_or (take n marks) j 0) 0) ≡ none = rw k at c.none-set in
-    rw (w, f)
+    let h : i < n = p.1 in
+    let e : get_or (take n marks) i 0 ≡ get_or marks i 0 = get_or-take n marks i 0 h in
+    rw (
+      w,
+      first-some n i (λ j. eqb (get_or (take n marks) j 0) 0) h (ap (λ y. eqb y 0) e ∙ ne_eqb _ 0 p.2)
+          (λ k l. eq-eqb _ _ (get_or-take n marks k 0 (omega arith) ∙ p.3 k (omega arith) l)),
+    )

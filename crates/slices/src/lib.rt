@@ -2,7 +2,5 @@
 
 #![tactic(auto)]
 
-pub mod bytes;
+pub mod copies;
 pub mod marks;
-pub mod numbers;
-pub mod words;

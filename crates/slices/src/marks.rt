@@ -1,26 +1,12 @@
 // Marks: 0 in use, any other value deleted.
 
 ghost use Rattle.std.specs.Prelude.{◌≡◌, length, take, ◌≤◌};
-ghost use Rattle.slices.specs.Marks.{found_mark};
-
-// A mark that is set, or none.
-#[derive(Clone, Copy)]
-pub enum Mark {
-    At(u32),
-    Nothing,
-}
+ghost use Rattle.scope.specs.Check.{set_mark};
 
 // The first of the first n marks that is set.
-pub fn first_mark(marks: &[u8], n: u32) -> Mark
+pub fn first_mark(marks: &[u8], n: u32) -> Option<u32>
     requires { n ≤ length marks.now }
-    ensures { result ≡ found_mark (take n marks.now) }
+    ensures { result ≡ set_mark (take n marks.now) }
 {
-    let mut i: u32 = 0;
-    while i < n {
-        if marks[i as usize] != 0 {
-            return Mark::At(i);
-        }
-        i += 1;
-    }
-    Mark::Nothing
+    (0..n).find(|i| marks[*i as usize] != 0)
 }

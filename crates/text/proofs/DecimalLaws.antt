@@ -8,7 +8,7 @@ use native.Mathlib.Omega.{arith}
 use borrow.Author.Tests.{lt-ltb, le-ltb, ltb-true, ltb-false}
 use lib.Dec.{ltb}
 use lib.ListN.{length, set, length-append}
-use Rattle.text.specs.Text.{over_from, digits_of, decimal, signed}
+use Rattle.text.specs.Text.{over_from, digits_of, decimal}
 use Rattle.text.proofs.PutLaws.{next-to, store-one}
 
 -- a number has no more digits than it counts, and one more
@@ -69,15 +69,3 @@ last-put out mid at n last b l m p =
       store-one mid last (48 + n % 10) ∙ ap (λ (s : List ℕ). over_from last d s) m ∙ next-to at last (decimal (n / 10)) d out p ∙ ap (λ (w : List ℕ). over_from at w out) (sym (decimal-more n b)),
       (omega arith, omega arith),
     )
-
--- ---- and with a sign
-pub minus-put : {one two : List ℕ} {p r : ℕ} (old : List ℕ) (at n : ℕ) → one ≡ over_from at (45 ∷ []) old → p ≡ at + 1 → two ≡ over_from p (decimal n) one → r ≡ p + length (decimal n) → r ≤ p + 20
-    → (two ≡ over_from at (signed true n) old) × ((r ≡ at + length (signed true n)) × (r ≤ at + 21))
-unfolding signed
-minus-put {one} {two} {p} old at n a b d e l =
-    (d ∙ ap (λ (s : List ℕ). over_from p (decimal n) s) a ∙ next-to at p (45 ∷ []) (decimal n) old b, (omega arith, omega arith))
-
-pub plain-put : {one : List ℕ} {r : ℕ} (old : List ℕ) (at n : ℕ) → one ≡ over_from at (decimal n) old → r ≡ at + length (decimal n) → r ≤ at + 20
-    → (one ≡ over_from at (signed false n) old) × ((r ≡ at + length (signed false n)) × (r ≤ at + 21))
-unfolding signed
-plain-put old at n d e l = (d, (e, omega arith))

@@ -1,2 +1,3 @@
 pub mod DecimalLaws
+pub mod PieceLaws
 pub mod PutLaws

@@ -1,14 +1,13 @@
 -- Bytes put into a slice, one item after another. Assumes nothing.
-use Prim.Native.Nat.{ℕ, zero, suc, ◌+◌, ◌*◌, ◌≤◌, ◌<◌}
-use native.Mathlib.Nat.{mul-suc, mul-zero, le_refl}
-use mathlib.Core.Path.{◌≡◌, refl, sym, ap, ◌∙◌}
-use mathlib.Core.List.{List, [], ◌∷◌, ◌++◌, append_assoc, append-nil}
+use Prim.Native.Nat.{ℕ, zero, suc, ◌+◌, ◌≤◌}
+use mathlib.Core.Path.{◌≡◌, refl, ap, ◌∙◌}
+use mathlib.Core.List.{List, [], ◌∷◌, ◌++◌}
 use native.Mathlib.Omega.{arith}
-use lib.ListN.{length, get_or, set, take, length-append}
-use lib.Seq.{take-suc, take-length, length-take-le}
+use lib.ListN.{length, set, drop, length-append}
+use borrow.Rule.Slice.PartMut.{put_mid}
 use Rattle.scope.specs.Lists.{over}
 use Rattle.mesh.proofs.SliceLaws.{length_over}
-use Rattle.text.specs.Text.{over_from}
+use Rattle.text.specs.Text.{over_from, decimal}
 
 pub length_from : (at : ℕ) (l old : List ℕ) → length (over_from at l old) ≡ length old
 unfolding over_from
@@ -65,79 +64,23 @@ store-one [] (suc at) x = refl
 store-one (y ∷ f) zero x = refl
 store-one (y ∷ f) (suc at) x = ap {B = List ℕ} (λ r. y ∷ r) (store-one f at x)
 
--- ---- items, each as its bytes
-unfoldable pub flat : {A : Type 0} → (A → List ℕ) → List A → List ℕ
-flat code [] = []
-flat code (x ∷ l) = code x ++ flat code l
+-- ---- a part of the slice, written over as a whole
+over-part : (w old : List ℕ) → length w ≤ length old → w ++ drop (length w) old ≡ over w old
+unfolding over
+over-part [] old b = refl
+over-part (x ∷ w) [] b = absurd (omega arith)
+over-part (x ∷ w) (y ∷ old) b = ap {B = List ℕ} (λ r. x ∷ r) (over-part w old (omega arith))
 
--- every item takes w bytes
-pub record Wide {A : Type 0} (code : A → List ℕ) (w : ℕ) : Type 0 where
-  pub so : (x : A) → length (code x) ≡ w
+pub put_part : (at k : ℕ) (w old : List ℕ) → k ≡ length w → at + k ≤ length old → put_mid at k old w ≡ over_from at w old
+unfolding over_from
+put_part zero k w old e b = rw e (over-part w old (omega arith))
+put_part (suc at) k w [] e b = absurd (omega arith)
+put_part (suc at) k w (y ∷ old) e b = ap {B = List ℕ} (λ r. y ∷ r) (put_part at k w old e (omega arith))
 
-pub length-flat : {A : Type 0} {code : A → List ℕ} {w : ℕ} → Wide code w → (l : List A) → length (flat code l) ≡ w * length l
-unfolding flat
-length-flat {A} {code} {w} p [] = sym (mul-zero w)
-length-flat {A} {code} {w} p (x ∷ l) =
-    let a = length-append (code x) (flat code l) in
-    let b = p.so x in
-    let e = length-flat p l in
-    let m = mul-suc w (length l) in
-    omega arith
-
-flat-snoc : {A : Type 0} (code : A → List ℕ) (l : List A) (x : A) → flat code (l ++ (x ∷ [])) ≡ flat code l ++ code x
-unfolding flat
-flat-snoc code [] x = append-nil (code x)
-flat-snoc code (y ∷ l) x = ap (λ (r : List ℕ). code y ++ r) (flat-snoc code l x) ∙ sym (append_assoc (code y) (flat code l) (code x))
-
--- a loop that puts the first n items of l there, before its turn i
-pub record Puts {A : Type 0} (code : A → List ℕ) (l : List A) (n at : ℕ) (old : List ℕ) (i : ℕ) (file : List ℕ) : Type 0 where
-  pub within : i ≤ n
-  pub size : length file ≡ length old
-  pub same : file ≡ over_from at (flat code (take i l)) old
-
-pub puts_none : {A : Type 0} {code : A → List ℕ} {l : List A} {n at : ℕ} {old : List ℕ} → Puts code l n at old 0 old
-unfolding flat
-puts_none {A} {code} {l} {n} {at} {old} = record { within = omega arith; size = refl; same = over_none at old }
-
-pub puts-on : {A : Type 0} {code : A → List ℕ} {w : ℕ} {l : List A} {n at : ℕ} {old : List ℕ} {i p : ℕ} {file : List ℕ} {file' : List ℕ} (d : A)
-    → Wide code w → Puts code l n at old i file → i < n → n ≤ length l → p ≡ at + w * i → file' ≡ over_from p (code (get_or l i d)) file → Puts code l n at old (i + 1) file'
-puts-on {A} {code} {w} {l} {n} {at} {old} {i} {p} {file} {file'} d k q b m e f = record {
-  within = omega arith;
-  size = ap length f ∙ length_from p (code (get_or l i d)) file ∙ q.size;
-  same =
-      let t : length (take i l) ≡ i = length-take-le i l (omega arith) in
-      let u : length (flat code (take i l)) ≡ w * i = length-flat k (take i l) ∙ ap (λ (j : ℕ). w * j) t in
-      let s : i + 1 ≡ suc i = omega arith in
-      let r : flat code (take (i + 1) l) ≡ flat code (take i l) ++ code (get_or l i d) = ap (λ (j : ℕ). flat code (take j l)) s ∙ ap (λ (h : List A). flat code h) (take-suc l i d (omega arith)) ∙ flat-snoc code (take i l) (get_or l i d) in
-      f ∙ ap (λ (h : List ℕ). over_from p (code (get_or l i d)) h) q.same
-      ∙ next-to at p (flat code (take i l)) (code (get_or l i d)) old (e ∙ ap (λ (j : ℕ). at + j) (sym u))
-      ∙ ap (λ (h : List ℕ). over_from at h old) (sym r);
-}
-
-pub puts-all : {A : Type 0} {code : A → List ℕ} {l : List A} {n at : ℕ} {old : List ℕ} {i : ℕ} {file : List ℕ} → Puts code l n at old i file → n ≤ i
-    → file ≡ over_from at (flat code (take n l)) old
-puts-all {A} {code} {l} {n} {at} {old} {i} {file} q b = let w = q.within in let e : n ≡ i = omega arith in rw e q.same
-
--- ---- bytes, each as itself
-unfoldable pub one : ℕ → List ℕ
-one x = x ∷ []
-
-wide-one : Wide one 1
-unfolding one
-wide-one = record { so = λ x. refl }
-
-flat-one : (l : List ℕ) → flat one l ≡ l
-unfolding flat one
-flat-one [] = refl
-flat-one (x ∷ l) = ap {B = List ℕ} (λ r. x ∷ r) (flat-one l)
-
-pub one_each : (at i : ℕ) → at + i ≡ at + 1 * i
-one_each at i = omega arith
-
-pub put_on : {l : List ℕ} {at : ℕ} {old : List ℕ} {i : ℕ} {file : List ℕ} → Puts one l (length l) at old i file → i < length l
-    → Puts one l (length l) at old (i + 1) (set file (at + i) (get_or l i 0))
-unfolding one
-put_on {l} {at} {old} {i} {file} q b = puts-on 0 wide-one q b (le_refl (length l)) (one_each at i) (store-one file (at + i) (get_or l i 0))
-
-pub put_all : {l : List ℕ} {at : ℕ} {old : List ℕ} {i : ℕ} {file : List ℕ} → Puts one l (length l) at old i file → length l ≤ i → file ≡ over_from at l old
-put_all {l} {at} {old} q b = puts-all q b ∙ ap (λ (h : List ℕ). over_from at (flat one h) old) (take-length l) ∙ ap (λ (h : List ℕ). over_from at h old) (flat-one l)
+-- ---- a name and its number
+pub field_put : {one two : List ℕ} {p r : ℕ} (old name : List ℕ) (at n : ℕ) → one ≡ over_from at name old → p ≡ at + length name → two ≡ over_from p (decimal n) one → r ≡ p + length (decimal n) → r ≤ p + 20
+    → (two ≡ over_from at (name ++ decimal n) old) × ((r ≡ at + length (name ++ decimal n)) × (r ≤ at + length name + 20))
+field_put {one} {two} {p} {r} old name at n a b d e l =
+    let f : Written at old name p one = record { text = a; place = b } in
+    let w = written_on (decimal n) f d e in
+    (w.text, (w.place, omega arith))

@@ -1,46 +1,42 @@
-use mathlib.Core.Path.{refl, ◌∙◌}
+use Prim.Native.Nat.{ℕ}
+use mathlib.Core.Path.{refl, ap, ◌∙◌}
 use native.Mathlib.Omega.{arith}
-use Rattle.links_triangulate.proofs.TrimLaws.{face_in, few-c, first-has, then-has, trim_start, trim-counts, trim-small, trim-done, corner-ok, corner-has, corner-on}
+use Rattle.scope.specs.declared.records.Counts.{Counts}
+use Rattle.links_triangulate.proofs.TrimLaws.{few-c, then-has, trim_start, trim-counts, trim-small, trim-done, corner-ok, corner-has, corner-on}
 use Rattle.links_triangulate.proofs.triangulate_face.Goals as goal
 
-pub start-a-requires : goal.start-a-requires
-start-a-requires c = face_in c.requires
+pub next-requires : goal.next-requires
+next-requires c = then-has c.requires c.start-a.ensures c.next-x.ensures
 
-pub prev-p-requires : goal.prev-p-requires
-prev-p-requires c = first-has c.requires c.start-a.ensures
-
-pub next-x-requires : goal.next-x-requires
-next-x-requires c = first-has c.requires c.start-a.ensures
-
-pub next-n-requires : goal.next-n-requires
-next-n-requires c = then-has c.requires c.start-a.ensures c.next-x.ensures
-
-pub overflow_cast-e : goal.overflow_cast-e
-overflow_cast-e c = let w = few-c c.requires in omega arith
-
-pub overflow_cast-g : goal.overflow_cast-g
-overflow_cast-g c = let w = few-c c.requires in omega arith
-
-pub loop-n-init : goal.loop-n-init
-loop-n-init c = let r = c.requires in
+pub loop-q-init : goal.loop-q-init
+loop-q-init c = let r = c.requires in
     let w = few-c r in
-    (w.0, w.1, refl, refl, trim_start r c.start-a.ensures c.next-x.ensures c.prev-p.ensures c.next-n.ensures)
+    record { few_e = w.0; few_f = w.1; same_v = refl; trimming = trim_start r c.start-a.ensures c.next-x.ensures c.prev.ensures c.next.ensures }
 
 pub cut_corner-requires : goal.cut_corner-requires
-cut_corner-requires c = corner-ok c.requires c.loop-n.invariant.4 c.loop-n-test.true
+cut_corner-requires c = corner-ok c.requires c.loop-q.invariant.trimming c.loop-q-test.true
 
-pub next-n-requires-in-loop-n : goal.next-n-requires-in-loop-n
-next-n-requires-in-loop-n c = corner-has c.requires c.loop-n.invariant.4 c.loop-n-test.true c.cut_corner.ensures.edges_after
+pub next-requires-in-loop-q : goal.next-requires-in-loop-q
+next-requires-in-loop-q c = corner-has c.requires c.loop-q.invariant.trimming c.loop-q-test.true c.cut_corner.ensures.edges_after
 
-pub loop-n-smaller : goal.loop-n-smaller
-loop-n-smaller c = let w = trim-counts c.requires c.loop-n.invariant.4 in omega arith
+pub loop-q-smaller : goal.loop-q-smaller
+loop-q-smaller c = let w = trim-counts c.requires c.loop-q.invariant.trimming in omega arith
 
-pub loop-n-preserved : goal.loop-n-preserved
-loop-n-preserved c = let r = c.requires in
-    let i = c.loop-n.invariant in
-    let s = corner-on r i.4 c.loop-n-test.true c.cut_corner.ensures.edges_after c.cut_corner.ensures.faces_after c.next-n-in-loop-n.ensures in
+pub loop-q-preserved : goal.loop-q-preserved
+loop-q-preserved c = let r = c.requires in
+    let i = c.loop-q.invariant in
+    let d = c.cut_corner.ensures in
+    let s = corner-on r i.trimming c.loop-q-test.true d.edges_after d.faces_after c.next-in-loop-q.ensures in
     let w = trim-small r s in
-    (w.0, w.1, c.cut_corner.auto.edges ∙ i.2, c.cut_corner.auto.faces ∙ i.3, s)
+    record { few_e = w.0; few_f = w.1; same_v = i.same_v; trimming = s }
 
 pub returns : goal.returns
-returns c = let (a, b, d) = trim-done c.requires c.loop-n.invariant.4 c.loop-n-test.false in record { edges_after = a; faces_after = b; value = d }
+returns c =
+    let i = c.loop-q.invariant in
+    let d = c.loop-q.d in
+    let (a, b, e) = trim-done c.requires i.trimming c.loop-q-test.false in
+    record {
+      edges_after = a;
+      faces_after = b;
+      value = ap (λ (v : ℕ). (let t : Counts = record { v = v; e = d.e; f = d.f } in t)) i.same_v ∙ e;
+    }

@@ -1,22 +1,15 @@
-use mathlib.Core.Path.{refl, ◌∙◌}
 use native.Mathlib.Omega.{arith}
-use Rattle.links_triangulate.proofs.FaceLaws.{faces-start, faces-few, faces-ok, faces-on, faces-done}
+use Rattle.links_triangulate.proofs.FaceLaws.{faces-start, faces-ok, faces-on, faces-done}
 use Rattle.links_triangulate.proofs.triangulate_links.Goals as goal
 
-pub overflow_cast-n : goal.overflow_cast-n
-overflow_cast-n c = let w = faces-few c.requires in omega arith
-
 pub loop-f-init : goal.loop-f-init
-loop-f-init c = (omega arith, refl, refl, faces-start c.requires)
+loop-f-init c = faces-start c.requires
 
 pub triangulate_face-d-requires : goal.triangulate_face-d-requires
-triangulate_face-d-requires c = faces-ok c.requires c.loop-f.invariant.3 c.loop-f-test.true
+triangulate_face-d-requires c = faces-ok c.requires c.loop-f.invariant c.loop-f-test.true
 
 pub loop-f-preserved : goal.loop-f-preserved
-loop-f-preserved c = let i = c.loop-f.invariant in
-    let l = c.loop-f-test.true in
-    (omega arith, c.triangulate_face-d.auto.edges ∙ i.1, c.triangulate_face-d.auto.faces ∙ i.2, faces-on c.requires i.3 l c.triangulate_face-d.ensures.edges_after c.triangulate_face-d.ensures.faces_after c.triangulate_face-d.ensures.value)
+loop-f-preserved c = let d = c.triangulate_face-d.ensures in faces-on c.requires c.loop-f.invariant c.loop-f-test.true d.edges_after d.faces_after d.value
 
 pub returns : goal.returns
-returns c = let i = c.loop-f.invariant in
-    let (a, b, d) = faces-done c.requires i.3 (let w = c.loop-f-test.false in omega arith) in record { edges_after = a; faces_after = b; value = d }
+returns c = let (a, b, d) = faces-done c.requires c.loop-f.invariant (let w = c.loop-f-test.false in omega arith) in record { edges_after = a; faces_after = b; value = d }

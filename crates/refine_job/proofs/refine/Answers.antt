@@ -1,17 +1,24 @@
-use mathlib.Core.Path.{sym}
-use lib.Seq.{length-take-le}
-use Rattle.check_mesh.specs.Checked.{slices_at}
+use Rattle.std.proofs.Common.{ap, ◌∙◌}
+use Rattle.std.proofs.lemmas.Result.{err_from_is_err_and}
+use Rattle.scope.specs.Call.{call}
+use Rattle.scope.specs.Slices.{Given}
 use Rattle.call_room.specs.Kinds.{scheme_of}
-use Rattle.file_read.specs.Format.{lent_at}
-use Rattle.call_steps.specs.Lent.{buffers_at}
-use Rattle.refine_job.proofs.JobLaws.{left-read, left-refused, within-refused}
+use Rattle.call_steps.specs.Lent.{lent}
+use Rattle.file_read.specs.Held.{held}
+use Rattle.refine_job.specs.Job.{made}
+use Rattle.refine_job.proofs.JobLaws.{left-read, left-refused}
 use Rattle.refine_job.proofs.refine.Goals as goal
 
-pub slice_bounds-given-end-2 : goal.slice_bounds-given-end-2
-slice_bounds-given-end-2 c = let s = c.args in sym (length-take-le s.n s.file.now c.requires)
+pub returns-in_err-counts-clause-after : goal.returns-in_err-counts-clause-after
+returns-in_err-counts-clause-after c =
+    let s = c.args in
+    let e = c.read.ensures in
+    let p = err_from_is_err_and c.from_residual.result c.from_residual.ensures.1 in
+    rw (p.1, p.2) (left-refused (scheme_of s.kind) s.passes s.flag s.n s.file.now (held s.cage.now) (lent s.room.now) e.value c.in_err-counts.was e.after)
 
-pub returns-in-Read : goal.returns-in-Read
-returns-in-Read c = let s = c.args in let e = c.read.ensures in let m = c.make.ensures in record { work_after = left-read (scheme_of s.kind) s.passes s.flag s.n s.file.now (lent_at s.outs.now s.edges.now s.faces.now s.vmarks.now s.emarks.now s.fmarks.now s.points.now) (buffers_at (slices_at s.newouts.now s.newedges.now s.newfaces.now s.newvmarks.now s.newemarks.now s.newfmarks.now) s.newpoints.now s.work.now) e.value c.in-Read.is e.points_after m.work_after; within = m.within }
-
-pub returns-in-Refused : goal.returns-in-Refused
-returns-in-Refused c = let s = c.args in let e = c.read.ensures in record { work_after = left-refused (scheme_of s.kind) s.passes s.flag s.n s.file.now (lent_at s.outs.now s.edges.now s.faces.now s.vmarks.now s.emarks.now s.fmarks.now s.points.now) (buffers_at (slices_at s.newouts.now s.newedges.now s.newfaces.now s.newvmarks.now s.newemarks.now s.newfmarks.now) s.newpoints.now s.work.now) e.value c.in-Refused.is e.points_after; within = within-refused }
+pub returns-clause-after : goal.returns-clause-after
+returns-clause-after c =
+    let s = c.args in
+    let e = c.read.ensures in
+    let m = c.make.ensures.after ∙ ap (λ (g : Given). made (call (scheme_of s.kind) s.passes s.flag g (lent s.room.now)) s.file.now) c.mesh.ensures in
+    left-read (scheme_of s.kind) s.passes s.flag s.n s.file.now (held s.cage.now) (lent s.room.now) e.value c.in_ok-counts.was e.after m

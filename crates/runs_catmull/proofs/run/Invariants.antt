@@ -1,8 +1,5 @@
-use Prim.Native.Nat.{◌≤◌, ◌-◌, ◌*◌}
+use Rattle.std.proofs.Common.{◌*◌, ◌≤◌}
 use Rattle.runs_catmull.proofs.run.Given as goal
 
-abbrev pub invariant-loop-cases : goal.invariant-loop-cases
-invariant-loop-cases g l = (l.cases ≤ 1000) × (l.differences ≤ 10 * l.cases)
-
-abbrev pub decreases-loop-cases : goal.decreases-loop-cases
-decreases-loop-cases g l = 1000 - l.cases
+abbrev pub invariant-loop : goal.invariant-loop
+invariant-loop g l = (l.total.cases ≤ l.counter) × (l.total.differences ≤ 9 * l.counter)

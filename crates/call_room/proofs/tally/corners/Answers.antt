@@ -1,18 +1,17 @@
-use native.Mathlib.Omega.{arith}
 use borrow.Author.Rules.{rules}
-use Rattle.call_room.proofs.TallyLaws.{none-counted, one-counted, counted-few, counted-all, bit-of}
-use Rattle.mesh.specs.Rounds.{rim_at}
+use borrow.Author.Tests.{tests}
+use native.Mathlib.Omega.{arith}
+use Prim.Native.Nat.{◌*◌}
+use mathlib.Core.Path.{◌∙◌}
 use mathlib.Core.Bool.{not}
+use Rattle.std.proofs.lemmas.Iterator.{YieldsList-from_range}
+use Rattle.std.proofs.lemmas.Iterator.Consumers.{YieldsList-from_filter, count_from_yields_List}
+use Rattle.mesh.specs.Rounds.{rim_at}
+use Rattle.call_room.proofs.TallyLaws.{range_number}
 use Rattle.call_room.proofs.tally.corners.Goals as goal
 
-pub loop-h-init : goal.loop-h-init
-loop-h-init c = (search rules, none-counted _)
-
-pub overflow_add-s : goal.overflow_add-s
-overflow_add-s c = let k = counted-few c.loop-h.invariant.1 in let q = bit-of (not (rim_at c.args.edges.now c.loop-h.h)) c.corner-s.ensures in omega arith
-
-pub loop-h-preserved : goal.loop-h-preserved
-loop-h-preserved c = (search rules, one-counted c.loop-h.invariant.1 c.corner-s.ensures)
-
 pub returns : goal.returns
-returns c = counted-all _ c.loop-h.invariant.1 (omega arith)
+returns c =
+    count_from_yields_List c.filter.result _ c.count.ensures.ran
+    (YieldsList-from_filter _ (λ h. not (rim_at c.args.edges.now h)) (YieldsList-from_range 0 (2 * c.args.n) (2 * c.args.n) c.filter.ensures.source (omega arith)) c.filter.ensures.closure (λ x r q k. search (rules, tests)))
+    ∙ range_number (2 * c.args.n) (λ h. not (rim_at c.args.edges.now h))

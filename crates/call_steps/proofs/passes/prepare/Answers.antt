@@ -1,4 +1,5 @@
-use Rattle.call_steps.proofs.PassLaws.{alone, prepares}
+use Rattle.call_room.proofs.KindLaws.{alone}
+use Rattle.call_steps.proofs.PassLaws.{prepares}
 use Rattle.call_steps.proofs.passes.prepare.Goals as goal
 
 pub returns : goal.returns

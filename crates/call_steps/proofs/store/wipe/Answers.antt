@@ -1,7 +1,6 @@
-use Rattle.check_mesh.specs.Checked.{slices_at}
-use Rattle.call_steps.specs.Lent.{buffers_at}
+use Rattle.call_steps.specs.Lent.{lent}
 use Rattle.call_steps.proofs.StoreLaws.{all-wiped}
 use Rattle.call_steps.proofs.store.wipe.Goals as goal
 
-pub returns : goal.returns
-returns c = let s = c.args in all-wiped (buffers_at (slices_at s.outs.now s.edges.now s.faces.now s.vmarks.now s.emarks.now s.fmarks.now) s.points.now s.work.now) c.clear_numbers-2.ensures c.clear_words.ensures c.clear_words-2.ensures c.clear_words-3.ensures c.clear_marks.ensures.vmarks_after c.clear_marks.ensures.emarks_after c.clear_marks.ensures.fmarks_after c.clear_numbers.ensures
+pub returns-clause-after : goal.returns-clause-after
+returns-clause-after c = let m = c.clear_marks.ensures in all-wiped (lent c.args.room.now) c.clear-5.ensures c.clear.ensures c.clear-2.ensures c.clear-3.ensures m.vmarks_after m.emarks_after m.fmarks_after c.clear-4.ensures

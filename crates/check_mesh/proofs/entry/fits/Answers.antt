@@ -1,25 +1,29 @@
-use Rattle.check_mesh.proofs.EntryLaws.{t-fits, tells-same}
-use Rattle.check_mesh.specs.Checked.{slices_at}
-use Rattle.check_mesh.specs.Stages.{Fits}
-use Rattle.laws_check.proofs.Tells.{denied, is-not, is-so, told}
+use mathlib.Core.Path.{sym, ◌∙◌}
 use native.Mathlib.Omega.{arith}
+use Rattle.laws_check.proofs.Tells.{denied, is-not, is-so, tells-map}
+use Rattle.mesh.specs.Given.{lists}
+use Rattle.check_mesh.specs.Stages.{Fits}
+use Rattle.check_mesh.proofs.EntryLaws.{t-fits, tells-same}
 use Rattle.check_mesh.proofs.entry.fits.Goals as goal
+use Rattle.check_mesh.proofs.entry.fits.Goals.{then-fits_in, else-fits_in}
 
-pub returns-then-not-fits_in : goal.returns-then-not-fits_in
-returns-then-not-fits_in c = tells-same (denied (λ (p : Fits c.args.c (slices_at c.args.outs.now c.args.edges.now c.args.faces.now c.args.vmarks.now c.args.emarks.now c.args.fmarks.now)). is-not c.fits_in.ensures c.if-not-fits_in.true (p.vertices.few, p.vertices.room, p.vertices.marks))) (t-fits c.args.c (slices_at c.args.outs.now c.args.edges.now c.args.faces.now c.args.vmarks.now c.args.emarks.now c.args.fmarks.now))
+pub returns-then-fits_in-2 : goal.returns-then-fits_in-2
+returns-then-fits_in-2 c = elim c.if-fits_in.branch [
+  | then-fits_in w ↦
+      let v = is-so c.fits_in.ensures w.if-fits_in.true in
+      let h = is-so w.fits_in-then-fits_in.ensures (sym w.value-is ∙ c.if-fits_in-2.true) in
+      tells-same (tells-map c.fits_in-then-fits_in-2.ensures
+      (λ f. record {
+        vertices = record { few = v.0; room = v.1; marks = v.2 };
+        halfedges = record { few = h.0; room = (let q = h.1 in omega arith); marks = h.2 };
+        sides = record { few = f.0; room = f.1; marks = f.2 };
+      })
+      (λ p. (p.sides.few, p.sides.room, p.sides.marks))) (t-fits c.args.c (lists c.args.s))
+  | else-fits_in w ↦ cc
+]
 
-pub returns-then-not-fits_in-2 : goal.returns-then-not-fits_in-2
-returns-then-not-fits_in-2 c = tells-same (denied (λ (p : Fits c.args.c (slices_at c.args.outs.now c.args.edges.now c.args.faces.now c.args.vmarks.now c.args.emarks.now c.args.fmarks.now)). is-not c.fits_in-2.ensures c.if-not-fits_in-2.true (p.halfedges.few, (let q = p.halfedges.room in omega arith), p.halfedges.marks))) (t-fits c.args.c (slices_at c.args.outs.now c.args.edges.now c.args.faces.now c.args.vmarks.now c.args.emarks.now c.args.fmarks.now))
-
-pub returns-then-not-fits_in-3 : goal.returns-then-not-fits_in-3
-returns-then-not-fits_in-3 c = tells-same (denied (λ (p : Fits c.args.c (slices_at c.args.outs.now c.args.edges.now c.args.faces.now c.args.vmarks.now c.args.emarks.now c.args.fmarks.now)). is-not c.fits_in-3.ensures c.if-not-fits_in-3.true (p.sides.few, p.sides.room, p.sides.marks))) (t-fits c.args.c (slices_at c.args.outs.now c.args.edges.now c.args.faces.now c.args.vmarks.now c.args.emarks.now c.args.fmarks.now))
-
-pub returns : goal.returns
-returns c = let v = is-so c.fits_in.ensures c.if-not-fits_in.false in
-    let h = is-so c.fits_in-2.ensures c.if-not-fits_in-2.false in
-    let f = is-so c.fits_in-3.ensures c.if-not-fits_in-3.false in
-    tells-same (told (record {
-      vertices = record { few = v.0; room = v.1; marks = v.2 };
-      halfedges = record { few = h.0; room = (let q = h.1 in omega arith); marks = h.2 };
-      sides = record { few = f.0; room = f.1; marks = f.2 };
-    })) (t-fits c.args.c (slices_at c.args.outs.now c.args.edges.now c.args.faces.now c.args.vmarks.now c.args.emarks.now c.args.fmarks.now))
+pub returns-else-fits_in-2 : goal.returns-else-fits_in-2
+returns-else-fits_in-2 c = rw c.if-fits_in-2.false (tells-same (denied (λ (p : Fits c.args.c (lists c.args.s)). elim c.if-fits_in.branch [
+  | then-fits_in w ↦ is-not w.fits_in-then-fits_in.ensures (sym w.value-is ∙ c.if-fits_in-2.false) (p.halfedges.few, (let q = p.halfedges.room in omega arith), p.halfedges.marks)
+  | else-fits_in w ↦ is-not c.fits_in.ensures w.if-fits_in.false (p.vertices.few, p.vertices.room, p.vertices.marks)
+])) (t-fits c.args.c (lists c.args.s)))

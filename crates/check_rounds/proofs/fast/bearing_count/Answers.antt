@@ -1,26 +1,17 @@
 use Rattle.scope.specs.Lists.{number_of}
-use Prim.Native.Nat.{◌*◌, ◌+◌, ℕ}
+use Prim.Native.Nat.{◌+◌}
 use Rattle.check_rounds.proofs.TourLaws.{count-few, count_next}
 use Rattle.check_rounds.specs.Tour.{bearing}
-use mathlib.Core.Path.{◌≡◌, refl}
+use mathlib.Core.Path.{refl}
 use native.Mathlib.Omega.{arith}
 use Rattle.check_rounds.proofs.fast.bearing_count.Goals as goal
 
-pub overflow_mul-n : goal.overflow_mul-n
-overflow_mul-n c = omega (arith, c.requires.few)
-
-pub loop-k-init : goal.loop-k-init
+pub loop-h-init : goal.loop-h-init
 unfolding number_of
-loop-k-init c = (omega arith, refl)
-
-pub bearing_bit-total-requires : goal.bearing_bit-total-requires
-bearing_bit-total-requires c = record { edges_fit = c.requires; h_bound = c.loop-k-test.true }
+loop-h-init c = refl
 
 pub overflow_add-total : goal.overflow_add-total
-overflow_add-total c = let e = count_next (λ (x : ℕ). bearing c.args.edges.now c.args.emarks.now x) c.loop-k.k in omega (arith, count-few (λ (x : ℕ). bearing c.args.edges.now c.args.emarks.now x) (c.loop-k.k + 1), c.loop-k.invariant.1, c.bearing_bit-total.ensures, c.loop-k.invariant.0, c.requires.few)
+overflow_add-total c = let p = bearing c.args.m.now.edges.now c.args.m.now.emarks.now in omega (arith, count_next p c.loop-h.h, count-few p (c.loop-h.h + 1), c.loop-h.invariant, c.bearing_bit-total.ensures, c.args.m.now.halfedges.few)
 
-pub loop-k-preserved : goal.loop-k-preserved
-loop-k-preserved c = (omega arith, (let e = count_next (λ (x : ℕ). bearing c.args.edges.now c.args.emarks.now x) c.loop-k.k in omega (arith, c.loop-k.invariant.1, c.bearing_bit-total.ensures)))
-
-pub returns : goal.returns
-returns c = let e : c.loop-k.k ≡ 2 * c.args.ne = omega (arith, c.loop-k.invariant.0, c.loop-k-test.false) in rw e at c.loop-k.invariant.1
+pub loop-h-preserved : goal.loop-h-preserved
+loop-h-preserved c = let p = bearing c.args.m.now.edges.now c.args.m.now.emarks.now in omega (arith, count_next p c.loop-h.h, c.loop-h.invariant, c.bearing_bit-total.ensures)

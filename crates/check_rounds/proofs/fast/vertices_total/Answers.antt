@@ -1,21 +1,14 @@
 use Prim.Native.Nat.{◌*◌}
 use Rattle.check_rounds.proofs.TourLaws.{count-few, tour-few, tour-start}
 use Rattle.check_rounds.specs.Tour.{unmarked}
-use mathlib.Core.Path.{◌≡◌}
 use native.Mathlib.Omega.{arith}
 use Rattle.check_rounds.proofs.fast.vertices_total.Goals as goal
 
-pub loop-k-init : goal.loop-k-init
-loop-k-init c = (omega arith, tour-start)
-
-pub vertex_length-total-requires : goal.vertex_length-total-requires
-vertex_length-total-requires c = record { edges_fit = c.requires.edges_fit; items_fit = c.requires.items_fit; sewn = c.requires.sewn; rooted = c.requires.rooted; all_leave = c.requires.all_leave; v_lt_nv = c.loop-k-test.true }
+pub loop-v-init : goal.loop-v-init
+loop-v-init c = tour-start
 
 pub overflow_add-total : goal.overflow_add-total
-overflow_add-total c = omega (arith, tour-few (c.vertex_length-total.ensures c.loop-k.total c.loop-k.invariant.1), count-few (unmarked c.args.emarks.now) (2 * c.args.ne), c.requires.edges_fit.few)
+overflow_add-total c = let m = c.args.m.now.mesh in omega (arith, tour-few (c.vertex_length-total.ensures c.loop-v.total c.loop-v.invariant), count-few (unmarked m.emarks.now) (2 * m.ne), m.halfedges.few)
 
-pub loop-k-preserved : goal.loop-k-preserved
-loop-k-preserved c = (omega arith, c.vertex_length-total.ensures c.loop-k.total c.loop-k.invariant.1)
-
-pub returns : goal.returns
-returns c = let e : c.loop-k.k ≡ c.args.nv = omega (arith, c.loop-k.invariant.0, c.loop-k-test.false) in rw e at c.loop-k.invariant.1
+pub loop-v-preserved : goal.loop-v-preserved
+loop-v-preserved c = c.vertex_length-total.ensures c.loop-v.total c.loop-v.invariant

@@ -1,9 +1,5 @@
-use Prim.Native.Nat.{◌-◌, ◌≤◌}
-use Rattle.check_rounds.specs.Tour.{TurnTour}
+use Rattle.check_rounds.specs.OnMesh.{VertexTour}
 use Rattle.check_rounds.proofs.fast.vertices_total.Given as goal
 
-abbrev pub invariant-loop-k : goal.invariant-loop-k
-invariant-loop-k l = (l.k ≤ l.nv) × TurnTour l.edges l.emarks l.outs l.ne l.k l.total
-
-abbrev pub decreases-loop-k : goal.decreases-loop-k
-decreases-loop-k l = l.nv - l.k
+abbrev pub invariant-loop-v : goal.invariant-loop-v
+invariant-loop-v l = VertexTour l.m.mesh l.v l.total

@@ -1,22 +1,9 @@
-use Prim.Native.Nat.{◌*◌}
+use Rattle.std.proofs.Common.{rules}
+use Rattle.check_rules.proofs.Searches.{low-tells}
 use Rattle.check_rounds.proofs.LeastLaws.{turns-led}
-use Rattle.check_rules.proofs.HalfLaws.{has-partner}
-use Rattle.check_rules.proofs.Searches.{low-start, low_step}
-use mathlib.Core.Path.{◌≡◌}
-use native.Mathlib.Omega.{arith}
+use Rattle.check_rounds.proofs.RuleLaws.{tail_below}
 use Rattle.check_rounds.proofs.low.lowest_off_turn.Goals as goal
 
-pub loop-k-init : goal.loop-k-init
-loop-k-init c = (omega arith, low-start)
-
-pub turn_ok-ok-requires : goal.turn_ok-ok-requires
-turn_ok-ok-requires c = record { edges_fit = c.requires.edges_fit; items_fit = c.requires.items_fit; sewn = c.requires.sewn; rooted = c.requires.rooted; b_bound = c.loop-k-test.true }
-
-pub tail-requires : goal.tail-requires
-tail-requires c = has-partner c.args.edges.now c.args.ne c.loop-k.k c.requires.edges_fit.room c.loop-k-test.true
-
-pub loop-k-preserved : goal.loop-k-preserved
-loop-k-preserved c = (omega arith, low_step c.loop-k.invariant.1 c.turn_ok-ok.ensures (rw c.tail.ensures at c.lower-best.ensures))
-
 pub returns : goal.returns
-returns c = let e : c.loop-k.k ≡ 2 * c.args.ne = omega (arith, c.loop-k.invariant.0, c.loop-k-test.false) in turns-led c.requires.sewn c.args.outs.now (rw e at c.loop-k.invariant.1)
+returns c = let m = c.args.m.now in
+    turns-led m.sewn m.mesh.outs.now (low-tells c.lowest.ensures (λ k b s. search rules) (λ k p s. search rules) (λ k i not. tail_below m.rooted k (λ x h. absurd (x h)) not))

@@ -6,4 +6,4 @@ use Rattle.count_fields.proofs.count.fields.Goals as goal
 
 pub returns : goal.returns
 unfolding counted tally_of loop joined_of rim_loops
-returns c = rw (c.half_of-x.ensures, c.rim_loops-l.ensures.value, c.joined-w.ensures.value, c.rim_edges-b.ensures, c.corners-s.ensures)
+returns c = rw (c.half_of.ensures, c.rim_loops-loops.ensures.value, c.joined-joined.ensures.value, c.rim_edges.ensures, c.corners.ensures)

@@ -6,10 +6,10 @@ use Rattle.count_fields.proofs.loops.lowest_rim.Goals as goal
 pub rim-requires : goal.rim-requires
 rim-requires c = walk-has c.requires
 
-pub returns-then-not-rim : goal.returns-then-not-rim
+pub returns-then-rim : goal.returns-then-rim
 unfolding lowest_rim
-returns-then-not-rim c = rw (sym c.rim.ensures ∙ c.if-not-rim.true)
+returns-then-rim c = rw (sym c.rim.ensures ∙ c.if-rim.true, ← c.meets_lower.ensures)
 
-pub returns : goal.returns
+pub returns-else-rim : goal.returns-else-rim
 unfolding lowest_rim
-returns c = rw (sym c.rim.ensures ∙ c.if-not-rim.false, ← c.meets_lower.ensures)
+returns-else-rim c = rw (sym c.rim.ensures ∙ c.if-rim.false, c.if-rim.false)

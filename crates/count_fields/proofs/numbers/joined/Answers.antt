@@ -1,13 +1,15 @@
-use native.Mathlib.Omega.{arith}
-use mathlib.Core.Path.{refl}
-use Rattle.count_fields.proofs.CountLaws.{numbered-none, numbered-on, numbered-all}
+use borrow.Author.Rules.{rules}
+use borrow.Author.Tests.{tests}
+use lib.Dec.{eqb}
+use mathlib.Core.Bool.{not}
+use mathlib.Core.Path.{◌∙◌}
+use Rattle.std.proofs.lemmas.Iterator.{YieldsList-from_slice}
+use Rattle.std.proofs.lemmas.Iterator.Consumers.{YieldsList-from_filter, count_from_yields_List}
+use Rattle.scope.specs.Links.{NONE}
+use Rattle.count_fields.proofs.CountLaws.{number_is}
 use Rattle.count_fields.proofs.numbers.joined.Goals as goal
 
-pub loop-v-init : goal.loop-v-init
-loop-v-init c = (omega arith, numbered-none)
-
-pub loop-v-preserved : goal.loop-v-preserved
-loop-v-preserved c = (omega arith, numbered-on c.loop-v.invariant.1 c.one-k.ensures.value refl)
-
-pub returns : goal.returns
-returns c = record { value = numbered-all c.loop-v.invariant.1 c.loop-v.invariant.0 c.loop-v-test.false; upper_bound = let q = c.loop-v.invariant.1.small in let r = c.loop-v.invariant.0 in omega arith }
+pub returns-clause-value : goal.returns-clause-value
+returns-clause-value c = count_from_yields_List c.filter.result _ c.count.ensures.ran
+    (YieldsList-from_filter _ (λ x. not (eqb x NONE)) (YieldsList-from_slice c.args.outs.now (cc)) c.filter.ensures.closure (λ x r q k. search (rules, tests)))
+    ∙ number_is (λ x. not (eqb x NONE)) c.args.outs.now

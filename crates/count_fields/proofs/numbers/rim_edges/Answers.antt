@@ -1,12 +1,14 @@
+use borrow.Author.Rules.{rules}
+use borrow.Author.Tests.{tests}
 use native.Mathlib.Omega.{arith}
-use Rattle.count_fields.proofs.CountLaws.{numbered-none, numbered-on, numbered-all}
+use mathlib.Core.Path.{◌∙◌}
+use Rattle.std.proofs.lemmas.Iterator.{YieldsList-from_range}
+use Rattle.std.proofs.lemmas.Iterator.Consumers.{YieldsList-from_filter, count_from_yields_List}
+use Rattle.mesh.specs.Rounds.{rim_edge_at}
+use Rattle.count_fields.proofs.CountLaws.{range_number}
 use Rattle.count_fields.proofs.numbers.rim_edges.Goals as goal
 
-pub loop-e-init : goal.loop-e-init
-loop-e-init c = (omega arith, numbered-none)
-
-pub loop-e-preserved : goal.loop-e-preserved
-loop-e-preserved c = (omega arith, numbered-on c.loop-e.invariant.1 c.one-k.ensures.value c.rim_edge.ensures)
-
 pub returns : goal.returns
-returns c = numbered-all c.loop-e.invariant.1 c.loop-e.invariant.0 c.loop-e-test.false
+returns c = count_from_yields_List c.filter.result _ c.count.ensures.ran
+    (YieldsList-from_filter _ (rim_edge_at c.args.edges.now) (YieldsList-from_range 0 c.args.n c.args.n c.filter.ensures.source (omega arith)) c.filter.ensures.closure (λ x r q k. search (rules, tests)))
+    ∙ range_number (rim_edge_at c.args.edges.now) c.args.n

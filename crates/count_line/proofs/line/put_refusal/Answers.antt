@@ -1,6 +1,9 @@
-use native.Mathlib.Omega.{arith}
-use Rattle.count_line.proofs.LineLaws.{refusal-put}
+use Rattle.text.proofs.PieceLaws.{at-front, front-length}
+use Rattle.count_line.proofs.LineLaws.{refusal-is}
 use Rattle.count_line.proofs.line.put_refusal.Goals as goal
 
-pub returns : goal.returns
-returns c = let s = c.args in let p = refusal-put s.out.now s.number c.put_field-end.ensures.out_after c.put_field-end.ensures.value c.put.ensures.out_after c.put.ensures.value in record { out_after = p.0; value = p.1; upper_bound = omega (arith, c.put_field-end.ensures.upper_bound, c.put.ensures.value) }
+pub returns-clause-out_after : goal.returns-clause-out_after
+returns-clause-out_after c = at-front _ c.put_pieces.ensures.out_after (refusal-is c.args.number)
+
+pub returns-clause-value : goal.returns-clause-value
+returns-clause-value c = front-length c.put_pieces.ensures.value (refusal-is c.args.number)

@@ -1,18 +1,10 @@
+use Rattle.std.proofs.Common.{rules, tests, arith, ◌∙◌, leb}
+use Rattle.std.proofs.lemmas.Iterator.Search.{all_from_yields_List}
+use Rattle.std.proofs.lemmas.Iterator.{YieldsList-from_slice}
 use Rattle.file_read.specs.Format.{marks_right}
-use borrow.Author.Tests.{le-leb, lt-leb}
-use Rattle.file_read.proofs.FillLaws.{passed_none, passed_on, passed-all, passed-not}
+use Rattle.file_read.proofs.FillLaws.{all_of_part}
 use Rattle.file_read.proofs.contents.marks_right.Goals as goal
-
-pub loop-i-init : goal.loop-i-init
-loop-i-init c = passed_none
-
-pub returns-then-file-from-gt1 : goal.returns-then-file-from-gt1
-unfolding marks_right
-returns-then-file-from-gt1 c = passed-not c.loop-i.invariant c.loop-i-test.true (lt-leb _ _ c.if-file-from-gt1.true)
-
-pub loop-i-preserved : goal.loop-i-preserved
-loop-i-preserved c = passed_on c.loop-i.invariant c.loop-i-test.true (le-leb _ _ c.if-file-from-gt1.false)
 
 pub returns : goal.returns
 unfolding marks_right
-returns c = passed-all c.loop-i.invariant c.loop-i-test.false
+returns c = all_from_yields_List (λ m. leb m 1) c.all.new.self _ _ c.all.ensures.ran (YieldsList-from_slice _ c.iter.ensures.rest) (λ x b q k. search (rules, tests)) ∙ all_of_part _ c.args.from c.args.n _ c.args.file.now (omega arith) c.requires

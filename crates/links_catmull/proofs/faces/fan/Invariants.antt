@@ -1,7 +1,5 @@
-use Prim.Native.Nat.{◌+◌, ◌-◌, ◌*◌, ◌≤◌}
-use mathlib.Core.Path.{◌≡◌}
+use Prim.Native.Nat.{◌+◌, ◌*◌}
 use mathlib.Core.List.{[]}
-use lib.ListN.{length}
 use Rattle.scope.specs.Edits.{petals}
 use Rattle.scope.specs.Passes.{pairs}
 use Rattle.laws_mesh.proofs.Loops.{steps}
@@ -11,8 +9,5 @@ use Rattle.links_catmull.proofs.StepLaws.{Fanning}
 use Rattle.links_catmull.proofs.faces.fan.Given as goal
 
 abbrev pub invariant-loop-i : goal.invariant-loop-i
-invariant-loop-i l = (l.i ≤ l.n) × (length l.edges ≡ length l.initial.edges) × (length l.faces ≡ length l.initial.faces)
-    × Fanning (next_at l.initial.edges) l.c l.e l.n l.i l.own (l.g + l.i) l.h (held 0 0 0 [] l.edges l.faces) (petals l.c l.e l.n 0 (pairs l.f l.g (steps (next_at l.initial.edges) l.a (2 * l.n))) (held 0 0 0 [] l.initial.edges l.initial.faces))
-
-abbrev pub decreases-loop-i : goal.decreases-loop-i
-decreases-loop-i l = l.n - l.i
+invariant-loop-i l =
+    Fanning (next_at l.initial.edges) l.c l.e l.n l.i l.own (l.g + l.i) l.h (held 0 0 0 [] l.edges l.faces) (petals l.c l.e l.n 0 (pairs l.f l.g (steps (next_at l.initial.edges) l.a (2 * l.n))) (held 0 0 0 [] l.initial.edges l.initial.faces))

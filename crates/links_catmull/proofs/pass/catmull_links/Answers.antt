@@ -1,4 +1,5 @@
 use mathlib.Core.Path.{ap, ◌∙◌}
+use Rattle.std.proofs.Common.{rules}
 use Rattle.scope.specs.Links.{Links}
 use Rattle.scope.specs.Tally.{counts_of}
 use Rattle.links_catmull.proofs.PassLaws.{ready-splits, ready-faces, ready-done}
@@ -13,6 +14,12 @@ split_faces-requires c = let d = c.split_edges.ensures in
 
 pub returns : goal.returns
 unfolding counts_of
-returns c = let d = c.split_edges.ensures in
-    let e = ready-done c.requires d.outs_after d.edges_after in
-    let r = c.split_faces.ensures in record { outs_after = r.outs_after ∙ ap (λ (m : Links). m.outs) e; edges_after = r.edges_after ∙ ap (λ (m : Links). m.edges) e; faces_after = r.faces_after ∙ ap (λ (m : Links). m.faces) e; value = r.value ∙ ap counts_of e }
+returns c =
+    let d = c.split_edges.ensures in
+    let e = c.split_faces.ensures.links_after ∙ ready-done c.requires d.outs_after d.edges_after in
+    record {
+      outs_after = search (rules, ap (λ (t : Links). t.outs) e);
+      edges_after = search (rules, ap (λ (t : Links). t.edges) e);
+      faces_after = search (rules, ap (λ (t : Links). t.faces) e);
+      value = c.counts.ensures ∙ ap counts_of e;
+    }

@@ -1,15 +1,11 @@
-use native.Mathlib.Omega.{arith}
 use Rattle.links_edits.proofs.SplitLaws.{insert-ok, split-in-edges, split-in-outs}
 use Rattle.links_edits.proofs.split.split_edge.Goals as goal
 
 pub look-x-requires : goal.look-x-requires
-look-x-requires c = let k = (insert-ok c.requires).around in record { has = k.half; has_2 = k.other }
+look-x-requires c = let k = (insert-ok c.requires).around in record { half = k.half; other = k.other }
 
 pub insert-requires : goal.insert-requires
 insert-requires c = rw c.look-x.ensures (insert-ok c.requires)
-
-pub rename-requires : goal.rename-requires
-rename-requires c = let k = c.requires in rw c.look-x.ensures (record { n_bound = (let f = k.few in omega arith); v_in_bounds = k.vertex; tail_in_bounds = k.from })
 
 pub returns : goal.returns
 returns c = let k = c.requires in record { outs_after = rw (c.rename.ensures, c.look-x.ensures) (split-in-outs k); edges_after = rw (c.insert.ensures, c.look-x.ensures) (split-in-edges k) }

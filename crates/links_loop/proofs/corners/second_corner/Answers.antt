@@ -1,10 +1,5 @@
-use Rattle.links_loop.specs.Corners.{second, painted}
 use Rattle.links_loop.proofs.CornerLaws.{gap-ok₂}
 use Rattle.links_loop.proofs.corners.second_corner.Goals as goal
 
 pub divide-requires : goal.divide-requires
 divide-requires c = gap-ok₂ c.requires.six_ok c.args.g
-
-pub returns : goal.returns
-unfolding second painted
-returns c = cc

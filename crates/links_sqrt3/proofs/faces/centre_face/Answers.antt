@@ -1,17 +1,41 @@
 use native.Mathlib.Omega.{arith}
-use Rattle.links_sqrt3.proofs.StepLaws.{centre-three, centre-outs, centre-edges, centre-faces}
+use mathlib.Core.Path.{refl, ◌∙◌}
+use Rattle.links_edits.proofs.StoreLaws.{held-is}
+use Rattle.links_sqrt3.proofs.StepLaws.{centre-kept, centre-done}
 use Rattle.links_sqrt3.proofs.faces.centre_face.Goals as goal
 
-pub next-y-requires : goal.next-y-requires
-next-y-requires c = let k = c.requires.three in
-    rw (c.next-x.ensures, c.start-z.ensures) (let a = k.x_in in let b = k.room_e in omega arith)
+pub overflow_mul-m : goal.overflow_mul-m
+overflow_mul-m c = let (v, e, f, o) = centre-kept c.requires.centre_ok c.start-z.ensures c.next-x.ensures c.next-y.ensures c.fan_three.ensures.links_after in
+    let k = c.requires.centre_ok.three.few_e in
+    omega arith
 
-pub fan_three-requires : goal.fan_three-requires
-fan_three-requires c = centre-three c.requires c.start-z.ensures c.next-x.ensures c.next-y.ensures
+pub overflow_add-m : goal.overflow_add-m
+overflow_add-m c = let (v, e, f, o) = centre-kept c.requires.centre_ok c.start-z.ensures c.next-x.ensures c.next-y.ensures c.fan_three.ensures.links_after in
+    let k = c.requires.centre_ok.three.few_e in
+    omega arith
 
-pub returns : goal.returns
-returns c = let k = c.requires in
-    let p = c.start-z.ensures in
-    let q = c.next-x.ensures in
-    let r = c.next-y.ensures in
-    let d = c.fan_three.ensures in record { outs_after = centre-outs k p q r c.set_out.ensures; edges_after = centre-edges k p q r d.edges_after; faces_after = centre-faces k p q r d.faces_after }
+pub set_out-requires : goal.set_out-requires
+set_out-requires c = let (v, e, f, o) = centre-kept c.requires.centre_ok c.start-z.ensures c.next-x.ensures c.next-y.ensures c.fan_three.ensures.links_after in
+    let k = c.requires.centre_ok.vertex in
+    let l = c.fan_three.ensures.same_slices.outs_long in
+    omega arith
+
+pub overflow_add-m-2 : goal.overflow_add-m-2
+overflow_add-m-2 c = let (v, e, f, o) = centre-kept c.requires.centre_ok c.start-z.ensures c.next-x.ensures c.next-y.ensures c.fan_three.ensures.links_after in
+    let k = c.requires.few in
+    omega arith
+
+pub overflow_add-m-3 : goal.overflow_add-m-3
+overflow_add-m-3 c = let (v, e, f, o) = centre-kept c.requires.centre_ok c.start-z.ensures c.next-x.ensures c.next-y.ensures c.fan_three.ensures.links_after in
+    let k = c.requires.centre_ok.three.few_e in
+    omega arith
+
+pub overflow_add-m-4 : goal.overflow_add-m-4
+overflow_add-m-4 c = let (v, e, f, o) = centre-kept c.requires.centre_ok c.start-z.ensures c.next-x.ensures c.next-y.ensures c.fan_three.ensures.links_after in
+    let k = c.requires.centre_ok.three.few_f in
+    omega arith
+
+pub returns-clause-links_after : goal.returns-clause-links_after
+returns-clause-links_after c =
+    held-is c.set_out.ensures refl refl
+    ∙ centre-done c.requires.centre_ok c.start-z.ensures c.next-x.ensures c.next-y.ensures c.fan_three.ensures.links_after

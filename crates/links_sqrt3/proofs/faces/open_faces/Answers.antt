@@ -1,72 +1,56 @@
-use mathlib.Core.Path.{refl, ap, ◌∙◌}
+use Prim.Native.Nat.{◌+◌}
 use native.Mathlib.Omega.{arith}
+use mathlib.Core.Path.{refl, sym, ap, ◌∙◌}
+use Rattle.std.proofs.Common.{rules}
+use Rattle.scope.specs.Lists.{each}
 use Rattle.scope.specs.Links.{Links}
-use Rattle.scope.specs.Tally.{counts_of}
-use Rattle.links_sqrt3.proofs.StepLaws.{gained-le, facing-start, facing-ok, facing-few, facing-up, facing-on, facing-done}
+use Rattle.links_edits.specs.Lent.{links_in}
+use Rattle.links_edits.proofs.FoldLaws.{each-more}
 use Rattle.links_sqrt3.proofs.AnswerLaws.{moved_same, moved_up, moved_to}
+use Rattle.links_sqrt3.proofs.StepLaws.{gained-le, face-counts, facing-ok, facing-up}
 use Rattle.links_sqrt3.proofs.faces.open_faces.Goals as goal
 
 pub loop-f-init : goal.loop-f-init
-loop-f-init c = let k = c.requires.faces_ok in
-    (omega arith, k.few_v, k.few_e, omega arith, omega arith, omega arith, refl, refl, refl, refl, moved_same _ _ _, facing-start _ _)
+unfolding each
+loop-f-init c = record {
+  few = c.requires.faces_ok.few_v;
+  least = omega arith;
+  most = omega arith;
+  same_slices = search rules;
+  so_far = refl;
+  long = refl;
+  points = moved_same _ _ _;
+}
 
-pub sqrt_face-n-requires : goal.sqrt_face-n-requires
-sqrt_face-n-requires c = let i = c.loop-f.invariant in
-    let s = c.requires in
+pub sqrt_face-requires : goal.sqrt_face-requires
+sqrt_face-requires c =
+    let i = c.loop-f.invariant in
+    let k = c.requires in
     let l = c.loop-f-test.true in
-    let k = facing-ok i.11 (s.faces_ok.each_ok _ l) in
-    let p = s.points_ok.in_work in
-    let q = facing-up i.11 k (s.points_ok.in_place _ (omega arith)) in record { face_ok = k; v_bound = i.1; v_in_bounds = omega (arith, i.5, p, l); faces_in_bounds = omega (arith, i.9, q) }
-
-pub overflow_add-nv : goal.overflow_add-nv
-overflow_add-nv c = let i = c.loop-f.invariant in
-    let n = gained-le (facing-ok i.11 (c.requires.faces_ok.each_ok _ c.loop-f-test.true)) c.sqrt_face-n.ensures.value in
-    omega (arith, n, i.0, i.1, i.2, i.3, c.requires.faces_ok.few_f, c.loop-f-test.true)
-
-pub overflow_add-ne : goal.overflow_add-ne
-overflow_add-ne c = let i = c.loop-f.invariant in
-    let n = gained-le (facing-ok i.11 (c.requires.faces_ok.each_ok _ c.loop-f-test.true)) c.sqrt_face-n.ensures.value in
-    omega (arith, n, i.0, i.1, i.2, i.3, c.requires.faces_ok.few_f, c.loop-f-test.true)
-
-pub overflow_add-ne-in-loop-f : goal.overflow_add-ne-in-loop-f
-overflow_add-ne-in-loop-f c = let i = c.loop-f.invariant in
-    let n = gained-le (facing-ok i.11 (c.requires.faces_ok.each_ok _ c.loop-f-test.true)) c.sqrt_face-n.ensures.value in
-    omega (arith, n, i.0, i.1, i.2, i.3, c.requires.faces_ok.few_f, c.loop-f-test.true)
-
-pub overflow_add-nf : goal.overflow_add-nf
-overflow_add-nf c = let i = c.loop-f.invariant in
-    let n = gained-le (facing-ok i.11 (c.requires.faces_ok.each_ok _ c.loop-f-test.true)) c.sqrt_face-n.ensures.value in
-    omega (arith, n, i.0, i.1, i.2, i.3, c.requires.faces_ok.few_f, c.loop-f-test.true)
-
-pub overflow_add-f : goal.overflow_add-f
-overflow_add-f c = let i = c.loop-f.invariant in
-    let n = gained-le (facing-ok i.11 (c.requires.faces_ok.each_ok _ c.loop-f-test.true)) c.sqrt_face-n.ensures.value in
-    omega (arith, n, i.0, i.1, i.2, i.3, c.requires.faces_ok.few_f, c.loop-f-test.true)
+    let o = facing-ok _ _ _ i.so_far (k.faces_ok.each_ok _ l) in
+    record {
+      face_ok = o;
+      few = i.few;
+      in_work = let p = k.points_ok.in_work in let q = i.most in omega arith;
+      in_place = let p = k.points_ok.in_place (c.loop-f.f + 1) (omega arith) in let q = facing-up _ _ _ i.so_far o in let r = i.long in omega arith;
+    }
 
 pub loop-f-preserved : goal.loop-f-preserved
-loop-f-preserved c = let i = c.loop-f.invariant in
-    let k = c.requires.faces_ok in
+loop-f-preserved c =
+    let i = c.loop-f.invariant in
+    let k = c.requires in
     let l = c.loop-f-test.true in
-    let o = facing-ok i.11 (k.each_ok _ l) in
-    let n = c.sqrt_face-n.ensures.value in
-    let t = facing-on i.11 o n c.sqrt_face-n.ensures.outs_after c.sqrt_face-n.ensures.edges_after c.sqrt_face-n.ensures.faces_after in
-    let few = facing-few t (k.each_few _ (omega arith)) in
-    let two = gained-le o n in (
-      omega arith,
-      few.0,
-      few.1,
-      omega (arith, i.3),
-      omega (arith, i.4),
-      omega (arith, i.5, two),
-      c.sqrt_face-n.auto.outs ∙ i.6,
-      c.sqrt_face-n.auto.edges ∙ i.7,
-      c.sqrt_face-n.auto.faces ∙ i.8,
-      c.sqrt_face-n.auto.points ∙ i.9,
-      moved_up _ _ _ _ _ i.4 i.10 c.sqrt_face-n.ensures.points_after n,
-      t,
-    )
-
-pub returns : goal.returns
-unfolding counts_of
-returns c = let i = c.loop-f.invariant in
-    let e = facing-done i.11 c.args.g (let l = c.loop-f-test.false in omega arith) in record { outs_after = ap (λ (t : Links). t.outs) e; edges_after = ap (λ (t : Links). t.edges) e; faces_after = ap (λ (t : Links). t.faces) e; points_after = moved_to _ _ _ i.10 (ap (λ (t : Links). t.nv) e); value = ap counts_of e }
+    let o = facing-ok _ _ _ i.so_far (k.faces_ok.each_ok _ l) in
+    let d = c.sqrt_face.ensures in
+    let n = gained-le c.args.flag c.loop-f.f (links_in c.loop-f.m) in
+    let w = ap (λ (t : Links). t.nv) d.links_after ∙ (face-counts o).0 in
+    let t = d.links_after ∙ each-more _ _ _ i.so_far in
+    record {
+      few = let a = ap (λ (t : Links). t.nv) t in let b = (k.faces_ok.each_few (c.loop-f.f + 1) (omega arith)).0 in omega arith;
+      least = let a = i.least in omega arith;
+      most = let a = i.most in omega arith;
+      same_slices = search rules;
+      so_far = t;
+      long = c.sqrt_face.auto.points ∙ i.long;
+      points = moved_to _ _ _ (moved_up _ _ _ _ _ i.least i.points d.points_after refl) (sym w);
+    }

@@ -1,26 +1,51 @@
-use mathlib.Core.Path.{ap}
+use Prim.Native.Nat.{ℕ, ◌*◌}
+use native.Mathlib.Omega.{arith}
+use mathlib.Core.Path.{ap, ◌∙◌}
 use Rattle.scope.specs.Links.{Links}
-use Rattle.links_sqrt3.proofs.StepLaws.{rim-split, rim-cut, rim-cut_2, rim-done}
+use Rattle.scope.specs.Edits.{split_edge, cut_off}
+use Rattle.links_edits.specs.Lent.{links_in}
+use Rattle.links_edits.proofs.LentLaws.{cut-faces}
+use Rattle.links_sqrt3.proofs.StepLaws.{rim-split, cut-there, cut-here, rim-done}
 use Rattle.links_sqrt3.proofs.faces.rim_face.Goals as goal
 
 pub split_edge-requires-2 : goal.split_edge-requires-2
-split_edge-requires-2 c = let p = c.split_edge.ensures in
-    rim-split c.requires p.outs_after p.edges_after
+unfolding split_edge
+split_edge-requires-2 c =
+    let p = c.split_edge.ensures.links_after in
+    record {
+      few = let a = ap (λ (t : Links). t.nv) p in let b = c.requires.few_v in omega arith;
+      split_ok = rim-split c.requires p;
+    }
 
 pub cut_four-requires : goal.cut_four-requires
-cut_four-requires c = let p = c.split_edge.ensures in
-    let q = c.split_edge-2.ensures in
-    rim-cut c.requires p.outs_after p.edges_after q.outs_after q.edges_after c.prev-c.ensures
+unfolding split_edge
+cut_four-requires c =
+    let p = c.split_edge.ensures.links_after in
+    let q = c.split_edge-2.ensures.links_after in
+    record {
+      few = let a = ap (λ (t : Links). t.nf) p in let b = ap (λ (t : Links). t.nf) q in let k = c.requires.few_f in omega arith;
+      cut_ok = rw c.prev-c.ensures (cut-there c.requires p q);
+    }
 
 pub cut_three-requires : goal.cut_three-requires
-cut_three-requires c = let p = c.split_edge.ensures in
-    let q = c.split_edge-2.ensures in
-    let r = c.cut_four.ensures in
-    rim-cut_2 c.requires p.outs_after p.edges_after q.outs_after q.edges_after c.prev-c.ensures r.edges_after r.faces_after c.next-b.ensures
+unfolding split_edge
+cut_three-requires c =
+    let n = 2 * c.args.m.now.e in
+    let p = c.split_edge.ensures.links_after in
+    let q = c.split_edge-2.ensures.links_after in
+    let t = links_in c.split_edge-2.new.self in
+    let r = c.cut_four.ensures.links_after in
+    record {
+      few = let a = ap (λ (t : Links). t.nf) p in let b = ap (λ (t : Links). t.nf) q in let d = ap (λ (t : Links). t.nf) r ∙ cut-faces n c.prev-c.result t in let k = c.requires.few_f in omega arith;
+      cut_ok = rw c.next-b.ensures (cut-here c.requires p q (r ∙ ap (λ (k : ℕ). cut_off n k t) c.prev-c.ensures));
+    }
 
-pub returns : goal.returns
-returns c = let p = c.split_edge.ensures in
-    let q = c.split_edge-2.ensures in
-    let r = c.cut_four.ensures in
-    let s = c.cut_three.ensures in
-    let e = rim-done c.requires p.outs_after p.edges_after q.outs_after q.edges_after c.prev-c.ensures r.edges_after r.faces_after c.next-b.ensures s.edges_after s.faces_after in record { outs_after = ap (λ (t : Links). t.outs) e; edges_after = ap (λ (t : Links). t.edges) e; faces_after = ap (λ (t : Links). t.faces) e }
+pub returns-clause-links_after : goal.returns-clause-links_after
+returns-clause-links_after c =
+    let n = 2 * c.args.m.now.e in
+    let h = c.args.h in
+    let t = links_in c.split_edge-2.new.self in
+    let u = links_in c.cut_four.new.self in
+    c.cut_three.ensures.links_after
+    ∙ ap (λ (k : ℕ). cut_off k h u) c.next-b.ensures
+    ∙ rim-done c.requires c.split_edge.ensures.links_after c.split_edge-2.ensures.links_after (c.cut_four.ensures.links_after ∙ ap (λ (k : ℕ). cut_off n k t) c.prev-c.ensures)

@@ -1,12 +1,11 @@
-use Prim.Native.Nat.{◌-◌, ◌≤◌}
 use mathlib.Core.Path.{◌≡◌}
-use lib.ListN.{length}
-use Rattle.links_edits.specs.Held.{held}
-use Rattle.links_sqrt3.proofs.StepLaws.{Swapping}
+use Rattle.scope.specs.Lists.{each}
+use Rattle.scope.specs.Passes.{swap_inner}
+use Rattle.links_edits.specs.Lent.{links_in, SameSlices}
 use Rattle.links_sqrt3.proofs.swaps.swap_edges.Given as goal
 
 abbrev pub invariant-loop-e : goal.invariant-loop-e
-invariant-loop-e l = (l.e ≤ l.n) × (length l.outs ≡ length l.initial.outs) × (length l.edges ≡ length l.initial.edges) × (length l.faces ≡ length l.initial.faces) × Swapping l.e (held 0 0 0 l.initial.outs l.initial.edges l.initial.faces) (held 0 0 0 l.outs l.edges l.faces)
-
-abbrev pub decreases-loop-e : goal.decreases-loop-e
-decreases-loop-e l = l.n - l.e
+invariant-loop-e l = record {
+  same_slices : SameSlices l.initial.m l.m;
+  so_far : links_in l.m ≡ each l.e swap_inner (links_in l.initial.m);
+}

@@ -1,28 +1,11 @@
-use mathlib.Core.List.{[]}
-use mathlib.Core.Path.{refl, sym, ◌∙◌}
-use Rattle.mesh.proofs.RoundLaws.{left_out, left-first, left_back, left-on, walk-has, walk-on, has-none, has_here, has-past}
+use borrow.Author.Rules.{rules}
+use borrow.Author.Tests.{tests}
+use Rattle.mesh.specs.Words.{head_at}
+use Rattle.mesh_walk.proofs.Rounds.{any_has_of, may_ask}
 use Rattle.mesh_walk.proofs.meets.head_on_loop.Goals as goal
 
-pub loop-left-init : goal.loop-left-init
-loop-left-init c = (c.requires, record { whole = refl })
-
-pub head-requires : goal.head-requires
-head-requires c = walk-has c.loop-left.invariant.0
-
-pub returns-then-head-v : goal.returns-then-head-v
-returns-then-head-v c = left-first c.loop-left.invariant.1 c.loop-left-test.true (λ l. has_here _ _ _ (sym c.head.ensures ∙ c.if-head-v.true))
-
-pub next-x-requires : goal.next-x-requires
-next-x-requires c = walk-has c.loop-left.invariant.0
-
-pub returns-then-x-h : goal.returns-then-x-h
-returns-then-x-h c = sym (has-past _ _ [] (λ e. c.if-head-v.false (c.head.ensures ∙ e)) ∙ has-none _)
-    ∙ left_back c.loop-left.invariant.1 c.loop-left-test.true c.next-x.ensures c.if-x-h.true
-
-pub loop-left-preserved : goal.loop-left-preserved
-loop-left-preserved c = let i = c.loop-left.invariant in
-    let s = c.next-x.ensures in
-    (walk-on s i.0, left-on i.1 c.loop-left-test.true s c.if-x-h.false (λ l. has-past _ _ _ (λ e. c.if-head-v.false (c.head.ensures ∙ e))))
+pub any-requires-clause-callable : goal.any-requires-clause-callable
+any-requires-clause-callable c = may_ask c.new.ensures.items c.requires (λ x q k. search rules) (λ x a b. search (rules, a))
 
 pub returns : goal.returns
-returns c = sym (has-none _) ∙ left_out c.loop-left.invariant.1 c.loop-left-test.false
+returns c = any_has_of c.any.new.self _ c.new.ensures.items (head_at c.args.edges.now) _ _ c.any.ensures.ran (λ x b q k. search (rules, tests))

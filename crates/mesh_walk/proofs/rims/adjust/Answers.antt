@@ -4,16 +4,13 @@ use Rattle.mesh.proofs.RoundLaws.{first-none}
 use Rattle.mesh_walk.specs.Adjust.{adjusted}
 use Rattle.mesh_walk.proofs.rims.adjust.Goals as goal
 
-pub rim_out-requires : goal.rim_out-requires
-rim_out-requires c = c.requires.walk c.if-h.true
-
-pub returns-in-At : goal.returns-in-At
+pub returns-in-Some : goal.returns-in-Some
 unfolding adjusted
-returns-in-At c = rw (ne_eqb _ _ c.if-h.true, sym c.in-At.ensures)
+returns-in-Some c = rw (ne_eqb _ _ c.if-h.true, sym c.in-Some.ensures)
 
-pub returns-in-Nowhere : goal.returns-in-Nowhere
+pub returns-in_default : goal.returns-in_default
 unfolding adjusted
-returns-in-Nowhere c = rw (ne_eqb _ _ c.if-h.true, sym c.in-Nowhere.ensures)
+returns-in_default c = rw (ne_eqb _ _ c.if-h.true, sym c.rim_out.ensures, c.in_default.is)
 
 pub returns-else-h : goal.returns-else-h
 unfolding adjusted

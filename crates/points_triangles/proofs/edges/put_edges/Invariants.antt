@@ -1,4 +1,4 @@
-use Prim.Native.Nat.{◌≤◌, ◌-◌, ◌*◌}
+use Prim.Native.Nat.{◌*◌}
 use mathlib.Core.Path.{◌≡◌}
 use mathlib.Core.List.{[]}
 use Rattle.scope.specs.Points.{loop_edge_point}
@@ -7,7 +7,4 @@ use Rattle.points_catmull.specs.Sums.{mesh_of}
 use Rattle.points_triangles.proofs.edges.put_edges.Given as goal
 
 abbrev pub invariant-loop-e : goal.invariant-loop-e
-invariant-loop-e l = (l.e ≤ l.n) × (l.work ≡ place (3 * l.at) (made (loop_edge_point l.update (mesh_of l.c [] l.edges []) l.points) l.e) l.initial.work)
-
-abbrev pub decreases-loop-e : goal.decreases-loop-e
-decreases-loop-e l = l.n - l.e
+invariant-loop-e l = l.work ≡ place (3 * l.cage.c.v) (made (loop_edge_point l.update (mesh_of l.cage.c [] l.cage.edges.now []) l.cage.points.now) l.e) l.initial.work

@@ -1,15 +1,17 @@
-use native.Mathlib.Omega.{arith}
+use borrow.Author.Rules.{rules}
+use mathlib.Core.Path.{◌≡◌, refl}
+use Rattle.std.specs.Prelude.{Err}
 use Rattle.points_triangles.proofs.PassLaws.{loop-kept, loop-moved, loop-refused}
 use Rattle.points_triangles.proofs.passes.loop_points.Goals as goal
+use Rattle.points_triangles.proofs.passes.loop_points.Goals.{then-update+in_ok-put_vertices, else-update}
 
-pub returns-then-not-update : goal.returns-then-not-update
-returns-then-not-update c = loop-kept _ _ _ _ _ _ c.if-not-update.true c.put_kept.ensures c.put_edges.ensures
+pub returns-in_err-put_vertices : goal.returns-in_err-put_vertices
+returns-in_err-put_vertices c =
+    let e : c.from_residual.result ≡ Err c.in_err-put_vertices.field-0.0 = search rules in
+    rw e (loop-refused _ _ _ _ _ c.args.update c.requires.outs _ c.if-update.true refl c.put_vertices.ensures _ c.in_err-put_vertices.was)
 
-pub put_vertices-requires : goal.put_vertices-requires
-put_vertices-requires c = let pre = c.requires in record { halves = pre.halves; outs = pre.outs; v_in_bounds = pre.v_in_bounds; v_in_bounds_2 = omega (arith, pre.e_in_bounds) }
-
-pub returns-in-Nobody : goal.returns-in-Nobody
-returns-in-Nobody c = loop-moved _ _ _ _ _ _ c.requires.outs _ c.if-not-update.false c.loop_table.ensures c.put_vertices.ensures c.in-Nobody.is c.put_edges-in-Nobody.ensures
-
-pub returns-in-Vertex : goal.returns-in-Vertex
-returns-in-Vertex c = loop-refused _ _ _ _ _ c.args.update c.requires.outs _ c.if-not-update.false c.loop_table.ensures c.put_vertices.ensures _ c.in-Vertex.is
+pub returns : goal.returns
+returns c = elim c.if-update.branch [
+  | then-update+in_ok-put_vertices w ↦ loop-moved _ _ _ _ _ _ c.requires.outs _ w.if-update.true refl w.put_vertices.ensures w.in_ok-put_vertices.was (rw w.work-is at c.put_edges.ensures)
+  | else-update w ↦ loop-kept _ _ _ _ _ _ w.if-update.false w.put_kept.ensures (rw w.work-is at c.put_edges.ensures)
+]

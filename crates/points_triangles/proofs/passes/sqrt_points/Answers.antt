@@ -1,17 +1,22 @@
-use native.Mathlib.Omega.{arith}
-use Rattle.points_catmull.proofs.PlaceLaws.{length-laid}
+use borrow.Author.Rules.{rules}
+use mathlib.Core.Path.{◌≡◌, refl}
+use Rattle.std.specs.Prelude.{Err}
 use Rattle.points_triangles.proofs.PassLaws.{sqrt-moved, sqrt-refused}
 use Rattle.points_triangles.proofs.passes.sqrt_points.Goals as goal
+use Rattle.points_triangles.proofs.passes.sqrt_points.Goals.{then-flag+in_ok-put_vertices, else-flag+in_ok-put_vertices-2}
 
-pub put_vertices-requires : goal.put_vertices-requires
-put_vertices-requires c = let pre = c.requires in record { halves = pre.halves; outs = pre.outs; v_in_bounds = pre.v_in_bounds; v_in_bounds_2 = omega (arith, pre.f_in_bounds) }
+pub returns-in_err-put_vertices : goal.returns-in_err-put_vertices
+returns-in_err-put_vertices c =
+    let e : c.from_residual.result ≡ Err c.in_err-put_vertices.field-0.0 = search rules in
+    rw e (sqrt-refused _ _ _ _ _ _ c.args.flag c.requires.outs _ (rw c.if-flag.true) refl c.put_vertices.ensures _ c.in_err-put_vertices.was)
 
-pub put_answers-requires : goal.put_answers-requires
-put_answers-requires c = let pre = c.requires in
-    let len = length-laid _ _ _ c.put_vertices.ensures.content in record { halves = pre.halves; starts = pre.starts; v_in_bounds = pre.v_in_bounds; f_in_bounds = omega (arith, pre.f_in_bounds) }
+pub returns-in_err-put_vertices-2 : goal.returns-in_err-put_vertices-2
+returns-in_err-put_vertices-2 c =
+    let e : c.from_residual-in_err-put_vertices-2.result ≡ Err c.in_err-put_vertices-2.field-0.0 = search rules in
+    rw e (sqrt-refused _ _ _ _ _ _ c.args.flag c.requires.outs _ (rw c.if-flag.false) refl c.put_vertices-else-flag.ensures _ c.in_err-put_vertices-2.was)
 
-pub returns-in-Nobody : goal.returns-in-Nobody
-returns-in-Nobody c = sqrt-moved _ _ _ _ _ _ _ c.requires.outs _ c.sqrt_rule.ensures c.sqrt_table.ensures c.put_vertices.ensures c.in-Nobody.is c.put_answers.ensures
-
-pub returns-in-Vertex : goal.returns-in-Vertex
-returns-in-Vertex c = sqrt-refused _ _ _ _ _ _ _ c.requires.outs _ c.sqrt_rule.ensures c.sqrt_table.ensures c.put_vertices.ensures _ c.in-Vertex.is
+pub returns : goal.returns
+returns c = elim c.if-flag.branch [
+  | then-flag+in_ok-put_vertices w ↦ sqrt-moved _ _ _ _ _ _ _ c.requires.outs _ (rw w.if-flag.true) refl w.put_vertices.ensures w.in_ok-put_vertices.was (rw w.work-is at c.put_answers.ensures)
+  | else-flag+in_ok-put_vertices-2 w ↦ sqrt-moved _ _ _ _ _ _ _ c.requires.outs _ (rw w.if-flag.false) refl w.put_vertices-else-flag.ensures w.in_ok-put_vertices-2.was (rw w.work-is at c.put_answers.ensures)
+]

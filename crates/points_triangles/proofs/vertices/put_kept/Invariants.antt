@@ -1,11 +1,7 @@
-use Prim.Native.Nat.{◌≤◌, ◌-◌}
 use mathlib.Core.Path.{◌≡◌}
 use Rattle.scope.specs.Points.{point_at}
 use Rattle.points_catmull.specs.Place.{place, made}
 use Rattle.points_triangles.proofs.vertices.put_kept.Given as goal
 
 abbrev pub invariant-loop-v : goal.invariant-loop-v
-invariant-loop-v l = (l.v ≤ l.n) × (l.work ≡ place 0 (made (point_at l.points) l.v) l.initial.work)
-
-abbrev pub decreases-loop-v : goal.decreases-loop-v
-decreases-loop-v l = l.n - l.v
+invariant-loop-v l = l.work ≡ place 0 (made (point_at l.points) l.v) l.initial.work

@@ -1,8 +1,0 @@
-use Rattle.laws_check.proofs.Tells.{is-not, is-so, tells-map, told}
-use Rattle.check_rules.proofs.local.vertex_ok.Goals as goal
-
-pub returns-then-not-live : goal.returns-then-not-live
-returns-then-not-live c = told (λ i. absurd (is-not c.live.ensures c.if-not-live.true i))
-
-pub returns : goal.returns
-returns c = tells-map c.none_or_half.ensures (λ p i. record { out_ok = p }) (λ f. (f (is-so c.live.ensures c.if-not-live.false)).out_ok)

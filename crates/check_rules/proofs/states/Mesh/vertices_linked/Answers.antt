@@ -1,0 +1,6 @@
+use Rattle.std.proofs.Common.{rules}
+use Rattle.check_rules.proofs.Searches.{found-tells}
+use Rattle.check_rules.proofs.states.Mesh.vertices_linked.Goals as goal
+
+pub returns : goal.returns
+returns c = found-tells c.first_wrong.ensures (λ k b s. search rules)
