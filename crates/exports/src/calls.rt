@@ -88,7 +88,9 @@ pub fn ternaglup_read(
     points: &mut [f64],
 ) -> FlatRead
     ensures value { result ≡ flat_reading (reading (read_refusal file.now (sizes (slices_at outs.old edges.old faces.old vmarks.old emarks.old fmarks.old)) (length points.old)) (file_counts file.now)) }
-    ensures points_after { lent_at outs.new edges.new faces.new vmarks.new emarks.new fmarks.new points.new ≡ read_leaves (read_refusal file.now (sizes (slices_at outs.old edges.old faces.old vmarks.old emarks.old fmarks.old)) (length points.old)) file.now (lent_at outs.old edges.old faces.old vmarks.old emarks.old fmarks.old points.old) }
+    ensures points_after { lent_at outs.new edges.new faces.new vmarks.new emarks.new fmarks.new points.new
+        ≡ read_leaves (read_refusal file.now (sizes (slices_at outs.old edges.old faces.old vmarks.old emarks.old fmarks.old)) (length points.old)) file.now
+        (lent_at outs.old edges.old faces.old vmarks.old emarks.old fmarks.old points.old) }
 {
     let mut into = Lent {
         outs,
@@ -117,7 +119,9 @@ pub fn ternaglup_write(
     file: &mut [u8],
 ) -> FlatWritten
     ensures value { result ≡ flat_writing (writing (write_refusal (counts_at v e f) (slices_at outs.now edges.now faces.now vmarks.now emarks.now fmarks.now) points.now (length file.old)) (file_end (counts_at v e f))) }
-    ensures file_after { file.new ≡ write_leaves (write_refusal (counts_at v e f) (slices_at outs.now edges.now faces.now vmarks.now emarks.now fmarks.now) points.now (length file.old)) (counts_at v e f) (slices_at outs.now edges.now faces.now vmarks.now emarks.now fmarks.now) points.now file.old }
+    ensures file_after { file.new
+        ≡ write_leaves (write_refusal (counts_at v e f) (slices_at outs.now edges.now faces.now vmarks.now emarks.now fmarks.now) points.now (length file.old))
+        (counts_at v e f) (slices_at outs.now edges.now faces.now vmarks.now emarks.now fmarks.now) points.now file.old }
 {
     let m = handed(outs, edges, faces, vmarks, emarks, fmarks, points, v, e, f);
     flat_writing(write(m, file))
@@ -147,8 +151,13 @@ pub fn ternaglup_catmull(
     newpoints: &mut [f64],
     work: &mut [f64],
 ) -> FlatSubdivided
-    ensures value { result ≡ flat_subdivided (call catmull passes (flag_of update) (given_at (counts_at v e f) (slices_at outs.now edges.now faces.now vmarks.now emarks.now fmarks.now) points.now) (buffers_at (slices_at newouts.old newedges.old newfaces.old newvmarks.old newemarks.old newfmarks.old) newpoints.old work.old)).answer }
-    ensures work_after { buffers_at (slices_at newouts.new newedges.new newfaces.new newvmarks.new newemarks.new newfmarks.new) newpoints.new work.new ≡ (call catmull passes (flag_of update) (given_at (counts_at v e f) (slices_at outs.now edges.now faces.now vmarks.now emarks.now fmarks.now) points.now) (buffers_at (slices_at newouts.old newedges.old newfaces.old newvmarks.old newemarks.old newfmarks.old) newpoints.old work.old)).left }
+    ensures value { result ≡ flat_subdivided (call catmull passes (flag_of update)
+        (given_at (counts_at v e f) (slices_at outs.now edges.now faces.now vmarks.now emarks.now fmarks.now) points.now)
+        (buffers_at (slices_at newouts.old newedges.old newfaces.old newvmarks.old newemarks.old newfmarks.old) newpoints.old work.old)).answer }
+    ensures work_after { buffers_at (slices_at newouts.new newedges.new newfaces.new newvmarks.new newemarks.new newfmarks.new) newpoints.new work.new
+        ≡ (call catmull passes (flag_of update)
+        (given_at (counts_at v e f) (slices_at outs.now edges.now faces.now vmarks.now emarks.now fmarks.now) points.now)
+        (buffers_at (slices_at newouts.old newedges.old newfaces.old newvmarks.old newemarks.old newfmarks.old) newpoints.old work.old)).left }
 {
     let given = handed(outs, edges, faces, vmarks, emarks, fmarks, points, v, e, f);
     let mut room = Buffers {
