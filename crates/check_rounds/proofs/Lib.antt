@@ -4,3 +4,4 @@ pub mod RuleLaws
 pub mod TourLaws
 pub mod LeastLaws
 pub mod AskLaws
+pub mod PartLaws

@@ -1,7 +1,10 @@
 -- From the two halves of C4, C7, C8 and C9 to the rules at their places. Assumes nothing.
 use mathlib.Core.Path.{◌≡◌, refl, sym, ap, ◌∙◌, subst, subst⁻¹}
 use mathlib.Core.Logic.{◌⊎◌, inl, inr, ⊎_elim, ◌≢◌}
-use Rattle.std.specs.Prelude.{Option, None, Some, MatchOption}
+use mathlib.Core.Bool.{Bool, true, false}
+use Rattle.std.specs.Prelude.{Option, None, Some, MatchOption, IsSomeAnd}
+use Rattle.std.specs.Bool.{then_some}
+use Rattle.laws_check.specs.Tells.{Tells}
 use mathlib.Core.List.{List}
 use Prim.Native.Nat.{ℕ, ◌*◌, ◌≤◌, ◌<◌}
 use native.Mathlib.Omega.{arith}
@@ -9,7 +12,7 @@ use native.Mathlib.Decide.{dec_lt}
 use Rattle.mesh.specs.Words.{face_at, link_at, next_at, tail_at, turn_at}
 use Rattle.check_rounds.specs.Steps.{perm-next}
 use Rattle.check_rules.proofs.HalfLaws.{half-partner}
-use Rattle.check_rules.specs.Place.{First, Found, Half, Live, Low, Lower, Lowest}
+use Rattle.check_rules.specs.Place.{First, Found, Half, Live, Low, LowBy, Lower, Lowest}
 use Rattle.check_rules.specs.Rule.{Alone, Bears, Faced, Leaves, LongEnough, Looped, Named, OnLoop, OnTurn, R4, R7, R8, R9, Rooted, Sewn}
 use Rattle.scope.specs.Links.{NONE, partner}
 use Rattle.laws_mesh.proofs.Cycle.{reach-sym, reach-trans}
@@ -121,6 +124,26 @@ module _ {ed em : List ℕ} {e : ℕ} where
   rule-9 {ol} {vm} {nv} g l = low-found l
       (λ k i B j. record { names = λ h x q z. ap (link_at ol) (sym q) ∙ B h x.0 q x z })
       (λ x i c h z. (c (g.head_in (partner x) (half-partner em e x h))).names x h refl z)
+
+-- what is found by a test that tells, where it is below the limit
+pub low-below : {Says Kept : ℕ → Bool → Type 0} {Puts : ℕ → ℕ → Type 0} {Ok : ℕ → Type 0} {place : ℕ → ℕ} {n limit : ℕ} {a r : Option ℕ} → LowBy Says Puts n a
+    → ((k : ℕ) (b : Bool) → Says k b → Tells b (Ok k)) → ((k p : ℕ) → Puts k p → p ≡ place k)
+    → MatchOption a (r ≡ None) (λ x. (b : Bool) × Kept x b × (r ≡ then_some b x)) → ((x : ℕ) (b : Bool) → Kept x b → Tells b (x < limit)) → Low Ok place n limit r
+low-below {Says} {Kept} {Puts} {Ok} {place} {n} {limit} {a} {r} l tells at kept less = go a l kept
+  where
+    fine : (o : Option ℕ) (k : ℕ) → ((p : ℕ) → IsSomeAnd o (λ z. z ≤ p) → p ≡ place k → ⊥) → Says k true ⊎ (Says k false × (p : ℕ) × Puts k p × IsSomeAnd o (λ z. z ≤ p)) → Ok k
+    fine o k away (inl s) = (tells k true s).so refl
+    fine o k away (inr (s, p, q, u)) = absurd (away p u (at k p q))
+
+    cut : (x : ℕ) → LowBy Says Puts n (Some x) → (b : Bool) → Tells b (x < limit) → Low Ok place n limit (then_some b x)
+    cut x l true c =
+        let (k, i, s, q) = l.some x refl in
+        record { finds = record { within = c.so refl; before = λ j i h. fine (Some x) j (λ p u z. omega arith) (l.each j i); broken = (k, i, sym (at k x q), (tells k false s).not_so refl) } }
+    cut x l false c = record { finds = λ j i h. fine (Some x) j (λ p u z. c.not_so refl (omega arith)) (l.each j i) }
+
+    go : (a : Option ℕ) → LowBy Says Puts n a → MatchOption a (r ≡ None) (λ x. (b : Bool) × Kept x b × (r ≡ then_some b x)) → Low Ok place n limit r
+    go None l e = subst⁻¹ (λ (o : Option ℕ). Low Ok place n limit o) e (record { finds = λ k i h. fine None k (λ p u z. u) (l.each k i) })
+    go (Some x) l (b, q, e) = subst⁻¹ (λ (o : Option ℕ). Low Ok place n limit o) e (cut x l b (less x b q))
 
 -- a halfedge that is not in order has its place
 pub face-below : {ed em fl fm : List ℕ} {e nf : ℕ} {Ok : Type 0} → Faced ed em fl fm e nf → (k : ℕ) → ((Half em e k → face_at ed k ≢ NONE → ⊥) → Ok) → (Ok → ⊥) → face_at ed k < nf

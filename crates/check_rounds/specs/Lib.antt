@@ -1,3 +1,4 @@
 pub mod Tour
 pub mod Steps
 pub mod OnMesh
+pub mod OnParts

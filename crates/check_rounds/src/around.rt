@@ -5,28 +5,29 @@ ghost use Rattle.std.specs.List.{list_all};
 ghost use Rattle.laws_check.specs.Tells.{Tells};
 ghost use Rattle.mesh.specs.Rounds.{Walk, loop_at};
 ghost use Rattle.mesh.specs.Words.{Has, face_at, next_at};
-ghost use Rattle.check_rounds.specs.OnMesh.{IsAlone, IsLooped, IsSpun, LeadsLoop, LeadsTurn};
-ghost use Rattle.check_rounds.specs.Tour.{Least, apart_at, spin_at};
-ghost use Rattle.check_rules.specs.OnMesh.{HasHalf};
+ghost use Rattle.check_rounds.specs.OnParts.{IsAlone, LeadsLoop, LeadsTurn};
+ghost use Rattle.check_rounds.specs.Tour.{Least, Spun, apart_at, spin_at};
+ghost use Rattle.check_rules.specs.Place.{Half};
+ghost use Rattle.check_rules.specs.Rule.{Looped};
 ghost use Rattle.scope.specs.Links.{NONE, partner};
 
+use crate::parts::{SewnFaces, SewnHalves, SewnVertices};
 use crate::steps::BothWays;
-use check_rules::states::SewnMesh;
 use mesh::half::{NONE, face, head, next, partner, prev};
 use mesh_walk::meets::{on_loop, on_turn};
 use mesh_walk::round::{ByNext, ByTurn, Round};
 
 // Whether a is the least halfedge of its loop or turn. It looks both ways at once, so that a loop of n halfedges, each asked, costs no more than about n log n steps.
-fn least<S: BothWays>(m: &SewnMesh, a: u32) -> bool
-    requires { HasHalf m.now.mesh a }
-    ensures { Tells result (Least (S.at m.now.mesh.edges.now) a) }
+fn least<S: BothWays>(m: &SewnHalves, a: u32) -> bool
+    requires { Half m.now.emarks.now m.now.ne a }
+    ensures { Tells result (Least (S.at m.now.edges.now) a) }
 {
     let mut y = a;
-    for x in Round::<S>::new(m.mesh.edges, m.mesh.ne as usize, a) {
+    for x in Round::<S>::new(m.edges, m.ne as usize, a) {
         if x < a || y < a {
             return false;
         }
-        y = S::back(&m.mesh, y);
+        y = S::back(m.edges, y);
     }
     true
 }
@@ -50,19 +51,19 @@ fn spin(edges: &[u32], h: u32) -> u32
 
 // The same where C8 is in order: around a's loop and around its head at once, until one of the two comes back.
 // A loop by hand: by two rounds and `zip` the check of the largest grid takes a quarter longer, and it may take no longer.
-fn alone_quick(m: &SewnMesh, a: u32) -> bool
-    requires looped { IsLooped m.now.mesh }
-    requires spun { IsSpun m.now.mesh }
-    requires half { HasHalf m.now.mesh a }
-    requires a_nonzero { face_at m.now.mesh.edges.now a ≢ NONE }
-    ensures { Tells result (IsAlone m.now.mesh a) }
+fn alone_quick(m: &SewnHalves, a: u32) -> bool
+    requires looped { Looped m.now.edges.now m.now.emarks.now m.now.ne }
+    requires spun { Spun m.now.edges.now m.now.emarks.now m.now.ne }
+    requires half { Half m.now.emarks.now m.now.ne a }
+    requires a_nonzero { face_at m.now.edges.now a ≢ NONE }
+    ensures { Tells result (IsAlone m.now a) }
 {
-    let edges = m.mesh.edges;
+    let edges = m.edges;
     let v = head(edges, a);
     let f = face(edges, a);
     let mut x = next(edges, a);
     let mut y = spin(edges, a);
-    let mut left = 2 * m.mesh.ne;
+    let mut left = 2 * m.ne;
     while 0 < left {
         if x == a {
             return true;
@@ -84,46 +85,43 @@ fn alone_quick(m: &SewnMesh, a: u32) -> bool
 }
 
 // C7 at a halfedge. Where w is true, C8 is in order everywhere.
-pub(crate) fn alone_ok(m: &SewnMesh, w: bool, a: u32) -> bool
-    requires looped { IsLooped m.now.mesh }
-    requires spun { w ≡ true → IsSpun m.now.mesh }
-    requires a_bound { a < 2 * m.now.mesh.ne }
-    ensures { Tells result (IsAlone m.now.mesh a) }
+pub fn alone_ok(m: &SewnHalves, w: bool, a: u32) -> bool
+    requires looped { Looped m.now.edges.now m.now.emarks.now m.now.ne }
+    requires spun { w ≡ true → Spun m.now.edges.now m.now.emarks.now m.now.ne }
+    requires a_bound { a < 2 * m.now.ne }
+    ensures { Tells result (IsAlone m.now a) }
 {
-    if !m.mesh.live_half(a) || m.mesh.face(a) == NONE {
+    if !m.live_half(a) || m.face(a) == NONE {
         return true;
     }
     if w {
         return alone_quick(m, a);
     }
-    alone(m.mesh.edges, m.mesh.ne as usize, a)
+    alone(m.edges, m.ne as usize, a)
 }
 
 // C4 at a halfedge, where it is the least of its loop: that one speaks for the others.
-pub(crate) fn loop_ok(m: &SewnMesh, b: u32) -> bool
-    requires { b < 2 * m.now.mesh.ne }
-    ensures { Tells result (LeadsLoop m.now.mesh b) }
+pub fn loop_ok(m: &SewnFaces, b: u32) -> bool
+    requires { b < 2 * m.now.halves.ne }
+    ensures { Tells result (LeadsLoop m.now b) }
 {
-    let f = m.mesh.face(b);
-    if !m.mesh.live_half(b) || f == NONE || !least::<ByNext>(m, b) {
+    let halves = &m.halves;
+    let f = halves.face(b);
+    if !halves.live_half(b) || f == NONE || !least::<ByNext>(halves, b) {
         return true;
     }
-    on_loop(
-        m.mesh.edges,
-        m.mesh.ne as usize,
-        b,
-        m.mesh.faces[f as usize],
-    )
+    on_loop(halves.edges, halves.ne as usize, b, m.faces[f as usize])
 }
 
 // C8 at a halfedge, where it is the least of its turn.
-pub(crate) fn turn_ok(m: &SewnMesh, b: u32) -> bool
-    requires { b < 2 * m.now.mesh.ne }
-    ensures { Tells result (LeadsTurn m.now.mesh b) }
+pub fn turn_ok(m: &SewnVertices, b: u32) -> bool
+    requires { b < 2 * m.now.halves.ne }
+    ensures { Tells result (LeadsTurn m.now b) }
 {
-    if !m.mesh.live_half(b) || !least::<ByTurn>(m, b) {
+    let halves = &m.halves;
+    if !halves.live_half(b) || !least::<ByTurn>(halves, b) {
         return true;
     }
-    let s = m.mesh.outs[m.mesh.tail(b) as usize];
-    s != NONE && on_turn(m.mesh.edges, m.mesh.ne as usize, b, s)
+    let s = m.outs[halves.tail(b) as usize];
+    s != NONE && on_turn(halves.edges, halves.ne as usize, b, s)
 }

@@ -5,4 +5,5 @@
 pub mod around;
 pub mod fast;
 pub mod low;
+pub mod parts;
 pub mod steps;

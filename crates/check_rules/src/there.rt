@@ -3,7 +3,7 @@
 ghost use Rattle.std.specs.Prelude.{◌≡◌, ◌⊎◌, ◌*◌, ◌<◌, ◌≤◌, length};
 ghost use Rattle.laws_check.specs.Tells.{Tells};
 ghost use Rattle.check_rules.specs.OnMesh.{HasFace, HasHalf, HasVertex};
-ghost use Rattle.check_rules.specs.Place.{Live, Lower};
+ghost use Rattle.check_rules.specs.Place.{Half, Live, Lower};
 ghost use Rattle.mesh.specs.Words.{face_at, head_at, next_at, prev_at, tail_at};
 ghost use Rattle.scope.specs.Links.{NONE};
 
@@ -11,11 +11,33 @@ use crate::states::Mesh;
 use mesh::half;
 use mesh::half::NONE;
 
-fn live(marks: &[u8], n: u32, x: u32) -> bool
+pub fn live(marks: &[u8], n: u32, x: u32) -> bool
     requires { n ≤ length marks.now }
     ensures { Tells result (Live marks.now n x) }
 {
     x < n && marks[x as usize] == 0
+}
+
+pub fn live_half(marks: &[u8], n: u32, h: u32) -> bool
+    requires { n ≤ length marks.now }
+    ensures { Tells result (Half marks.now n h) }
+{
+    live(marks, n, h / 2)
+}
+
+// A link that may be none.
+pub fn none_or_live(marks: &[u8], n: u32, x: u32) -> bool
+    requires { n ≤ length marks.now }
+    ensures { Tells result ((x ≡ NONE) ⊎ Live marks.now n x) }
+{
+    x == NONE || live(marks, n, x)
+}
+
+pub fn none_or_half(marks: &[u8], n: u32, h: u32) -> bool
+    requires { n ≤ length marks.now }
+    ensures { Tells result ((h ≡ NONE) ⊎ Half marks.now n h) }
+{
+    h == NONE || live_half(marks, n, h)
 }
 
 impl Mesh<'_> {
@@ -28,26 +50,13 @@ impl Mesh<'_> {
     pub fn live_half(&self, h: u32) -> bool
         ensures { Tells result (HasHalf self.now h) }
     {
-        live(self.emarks, self.ne, h / 2)
+        live_half(self.emarks, self.ne, h)
     }
 
     pub fn live_face(&self, f: u32) -> bool
         ensures { Tells result (HasFace self.now f) }
     {
         live(self.fmarks, self.nf, f)
-    }
-
-    // A link that may be none.
-    pub(crate) fn none_or_half(&self, h: u32) -> bool
-        ensures { Tells result ((h ≡ NONE) ⊎ HasHalf self.now h) }
-    {
-        h == NONE || self.live_half(h)
-    }
-
-    pub(crate) fn none_or_face(&self, f: u32) -> bool
-        ensures { Tells result ((f ≡ NONE) ⊎ HasFace self.now f) }
-    {
-        f == NONE || self.live_face(f)
     }
 
     pub fn face(&self, h: u32) -> u32
@@ -82,7 +91,7 @@ impl Mesh<'_> {
         requires { h < 2 * self.now.ne }
         ensures { result ≡ tail_at self.now.edges.now h }
     {
-        half::tail(self.edges, h)
+        self.head(half::partner(h))
     }
 }
 

@@ -9,7 +9,7 @@ alone_quick-requires c = record { looped = c.requires.looped; spun = c.requires.
 
 pub alone-requires : goal.alone-requires
 alone-requires c = let m = c.args.m.now in
-    perm-walk m.mesh.emarks.now (perm-next m.sewn) m.mesh.halfedges.room (is-so c.live_half.ensures c.if-not-live_half.false)
+    perm-walk m.emarks.now (perm-next m.sewn) m.fit.room (is-so c.live_half.ensures c.if-not-live_half.false)
 
 pub returns : goal.returns
 returns c = alone-round c.args.m.now.sewn c.requires.looped (is-so c.live_half.ensures c.if-not-live_half.false) (λ e. c.if-face.false (c.face.ensures ∙ e)) c.alone.ensures

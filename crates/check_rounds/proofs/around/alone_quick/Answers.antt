@@ -9,19 +9,19 @@ use native.Mathlib.Omega.{arith}
 use Rattle.check_rounds.proofs.around.alone_quick.Goals as goal
 
 pub head-v-requires : goal.head-v-requires
-head-v-requires c = omega (arith, c.requires.half.0, c.args.m.now.mesh.halfedges.room)
+head-v-requires c = omega (arith, c.requires.half.0, c.args.m.now.fit.room)
 
 pub face-f-requires : goal.face-f-requires
-face-f-requires c = omega (arith, c.requires.half.0, c.args.m.now.mesh.halfedges.room)
+face-f-requires c = omega (arith, c.requires.half.0, c.args.m.now.fit.room)
 
 pub next-x-requires : goal.next-x-requires
-next-x-requires c = omega (arith, c.requires.half.0, c.args.m.now.mesh.halfedges.room)
+next-x-requires c = omega (arith, c.requires.half.0, c.args.m.now.fit.room)
 
 pub spin-y-requires : goal.spin-y-requires
-spin-y-requires c = has-partner c.args.m.now.mesh.edges.now c.args.m.now.mesh.ne c.args.a c.args.m.now.mesh.halfedges.room c.requires.half.0
+spin-y-requires c = has-partner c.args.m.now.edges.now c.args.m.now.ne c.args.a c.args.m.now.fit.room c.requires.half.0
 
 pub overflow_mul-left : goal.overflow_mul-left
-overflow_mul-left c = omega (arith, c.args.m.now.mesh.halfedges.few)
+overflow_mul-left c = omega (arith, c.args.m.now.fit.few)
 
 pub loop-left-init : goal.loop-left-init
 loop-left-init c = let i = c.requires.half in
@@ -35,28 +35,28 @@ loop-left-init c = let i = c.requires.half in
     )
 
 pub returns-then-x-a : goal.returns-then-x-a
-returns-then-x-a c = told (λ i n b j p q. only_at {key = head_at c.args.m.now.mesh.edges.now} c.loop-left.invariant.2 c.if-x-a.true (c.requires.looped.one_loop c.args.a b i j n p) q)
+returns-then-x-a c = told (λ i n b j p q. only_at {key = head_at c.args.m.now.edges.now} c.loop-left.invariant.2 c.if-x-a.true (c.requires.looped.one_loop c.args.a b i j n p) q)
 
 pub returns-then-y-a : goal.returns-then-y-a
-returns-then-y-a c = told (λ i n b j p q. only_at {key = face_at c.args.m.now.mesh.edges.now} c.loop-left.invariant.5 c.if-y-a.true (c.requires.spun.spin c.args.a b i j q) p)
+returns-then-y-a c = told (λ i n b j p q. only_at {key = face_at c.args.m.now.edges.now} c.loop-left.invariant.5 c.if-y-a.true (c.requires.spun.spin c.args.a b i j q) p)
 
 pub head-requires : goal.head-requires
-head-requires c = omega (arith, c.loop-left.invariant.0.0, c.args.m.now.mesh.halfedges.room)
+head-requires c = omega (arith, c.loop-left.invariant.0.0, c.args.m.now.fit.room)
 
 pub returns-then-head-v : goal.returns-then-head-v
 returns-then-head-v c = denied (λ p. c.if-x-a.false (p c.requires.half c.requires.a_nonzero c.loop-left.x c.loop-left.invariant.0 c.loop-left.invariant.1 (sym c.head.ensures ∙ c.if-head-v.true ∙ c.head-v.ensures)))
 
 pub face-requires : goal.face-requires
-face-requires c = omega (arith, c.loop-left.invariant.3.0, c.args.m.now.mesh.halfedges.room)
+face-requires c = omega (arith, c.loop-left.invariant.3.0, c.args.m.now.fit.room)
 
 pub returns-then-face-f : goal.returns-then-face-f
 returns-then-face-f c = denied (λ p. c.if-y-a.false (p c.requires.half c.requires.a_nonzero c.loop-left.y c.loop-left.invariant.3 (sym c.face.ensures ∙ c.if-face-f.true ∙ c.face-f.ensures) c.loop-left.invariant.4))
 
 pub next-x-requires-in-loop-left : goal.next-x-requires-in-loop-left
-next-x-requires-in-loop-left c = omega (arith, c.loop-left.invariant.0.0, c.args.m.now.mesh.halfedges.room)
+next-x-requires-in-loop-left c = omega (arith, c.loop-left.invariant.0.0, c.args.m.now.fit.room)
 
 pub spin-y-requires-in-loop-left : goal.spin-y-requires-in-loop-left
-spin-y-requires-in-loop-left c = has-partner c.args.m.now.mesh.edges.now c.args.m.now.mesh.ne c.loop-left.y c.args.m.now.mesh.halfedges.room c.loop-left.invariant.3.0
+spin-y-requires-in-loop-left c = has-partner c.args.m.now.edges.now c.args.m.now.ne c.loop-left.y c.args.m.now.fit.room c.loop-left.invariant.3.0
 
 pub loop-left-preserved : goal.loop-left-preserved
 loop-left-preserved c = let i = c.loop-left.invariant in

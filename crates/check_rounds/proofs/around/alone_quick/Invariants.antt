@@ -7,8 +7,8 @@ use mathlib.Core.Path.{◌≡◌}
 use Rattle.check_rounds.proofs.around.alone_quick.Given as goal
 
 abbrev pub invariant-loop-left : goal.invariant-loop-left
-invariant-loop-left l = Half l.m.mesh.emarks.now l.m.mesh.ne l.x × (face_at l.m.mesh.edges.now l.x ≡ face_at l.m.mesh.edges.now l.a) × Walk (next_at l.m.mesh.edges.now) (λ z. (z ≢ l.a) × (head_at l.m.mesh.edges.now z ≢ head_at l.m.mesh.edges.now l.a)) (next_at l.m.mesh.edges.now l.a) (2 * l.m.mesh.ne) l.left l.x
-    × Half l.m.mesh.emarks.now l.m.mesh.ne l.y × (head_at l.m.mesh.edges.now l.y ≡ head_at l.m.mesh.edges.now l.a) × Walk (spin_at l.m.mesh.edges.now) (λ z. (z ≢ l.a) × (face_at l.m.mesh.edges.now z ≢ face_at l.m.mesh.edges.now l.a)) (spin_at l.m.mesh.edges.now l.a) (2 * l.m.mesh.ne) l.left l.y
+invariant-loop-left l = Half l.m.emarks.now l.m.ne l.x × (face_at l.m.edges.now l.x ≡ face_at l.m.edges.now l.a) × Walk (next_at l.m.edges.now) (λ z. (z ≢ l.a) × (head_at l.m.edges.now z ≢ head_at l.m.edges.now l.a)) (next_at l.m.edges.now l.a) (2 * l.m.ne) l.left l.x
+    × Half l.m.emarks.now l.m.ne l.y × (head_at l.m.edges.now l.y ≡ head_at l.m.edges.now l.a) × Walk (spin_at l.m.edges.now) (λ z. (z ≢ l.a) × (face_at l.m.edges.now z ≢ face_at l.m.edges.now l.a)) (spin_at l.m.edges.now l.a) (2 * l.m.ne) l.left l.y
 
 abbrev pub decreases-loop-left : goal.decreases-loop-left
 decreases-loop-left l = l.left

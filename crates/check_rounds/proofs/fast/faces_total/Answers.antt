@@ -8,7 +8,7 @@ pub loop-f-init : goal.loop-f-init
 loop-f-init c = tour-start
 
 pub overflow_add-total : goal.overflow_add-total
-overflow_add-total c = let m = c.args.m.now.mesh in omega (arith, tour-few (c.face_length-total.ensures c.loop-f.total c.loop-f.invariant), count-few (bearing m.edges.now m.emarks.now) (2 * m.ne), m.halfedges.few)
+overflow_add-total c = let m = c.args.m.now.halves in omega (arith, tour-few (c.face_length-total.ensures c.loop-f.total c.loop-f.invariant), count-few (bearing m.edges.now m.emarks.now) (2 * m.ne), m.fit.few)
 
 pub loop-f-preserved : goal.loop-f-preserved
 loop-f-preserved c = c.face_length-total.ensures c.loop-f.total c.loop-f.invariant

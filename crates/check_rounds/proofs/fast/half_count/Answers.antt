@@ -11,7 +11,7 @@ unfolding number_of
 loop-h-init c = refl
 
 pub overflow_add-total : goal.overflow_add-total
-overflow_add-total c = let p = unmarked c.args.m.now.emarks.now in omega (arith, count_next p c.loop-h.h, count-few p (c.loop-h.h + 1), c.loop-h.invariant, c.half_bit-total.ensures, c.args.m.now.halfedges.few)
+overflow_add-total c = let p = unmarked c.args.m.now.emarks.now in omega (arith, count_next p c.loop-h.h, count-few p (c.loop-h.h + 1), c.loop-h.invariant, c.half_bit-total.ensures, c.args.m.now.fit.few)
 
 pub loop-h-preserved : goal.loop-h-preserved
 loop-h-preserved c = let p = unmarked c.args.m.now.emarks.now in omega (arith, count_next p c.loop-h.h, c.loop-h.invariant, c.half_bit-total.ensures)

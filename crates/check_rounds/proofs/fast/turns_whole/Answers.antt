@@ -6,4 +6,4 @@ use mathlib.Core.Path.{◌∙◌}
 use Rattle.check_rounds.proofs.fast.turns_whole.Goals as goal
 
 pub returns-then-is_none : goal.returns-then-is_none
-returns-then-is_none c = λ e. turn-whole (record { leave = found-all c.all_leave.ensures (search rules) }) c.vertices_total.ensures (eqb-true _ _ e ∙ c.half_count.ensures)
+returns-then-is_none c = λ e. turn-whole (record { leave = found-all c.all_leave.ensures (search rules) }) (rw c.of-vertices.ensures at c.vertices_total.ensures) (eqb-true _ _ e ∙ rw c.of-vertices.ensures at c.half_count.ensures)

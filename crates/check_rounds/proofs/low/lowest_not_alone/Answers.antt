@@ -1,7 +1,7 @@
-use Rattle.std.proofs.Common.{rules}
-use Rattle.check_rules.proofs.Searches.{low-tells}
-use Rattle.check_rounds.proofs.RuleLaws.{face-below}
+use Rattle.std.proofs.Common.{rules, tests, ltb, ◌≡◌}
+use Rattle.laws_check.proofs.Tells.{t-lt}
+use Rattle.check_rounds.proofs.RuleLaws.{low-below}
 use Rattle.check_rounds.proofs.low.lowest_not_alone.Goals as goal
 
 pub returns : goal.returns
-returns c = low-tells c.lowest.ensures (λ k b s. search rules) (λ k p s. search rules) (λ k i not. face-below c.args.m.now.faced k (λ x h n. absurd (x h n)) not)
+returns c = low-below c.lowest.ensures (λ k b s. search rules) (λ k p s. search rules) c.filter.ensures (λ x b s. let e : b ≡ ltb x c.args.nf = search (rules, tests) in rw e (t-lt x c.args.nf))

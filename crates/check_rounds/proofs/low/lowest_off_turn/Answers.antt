@@ -6,4 +6,4 @@ use Rattle.check_rounds.proofs.low.lowest_off_turn.Goals as goal
 
 pub returns : goal.returns
 returns c = let m = c.args.m.now in
-    turns-led m.sewn m.mesh.outs.now (low-tells c.lowest.ensures (λ k b s. search rules) (λ k p s. search rules) (λ k i not. tail_below m.rooted k (λ x h. absurd (x h)) not))
+    turns-led m.halves.sewn m.outs.now (low-tells c.lowest.ensures (λ k b s. search rules) (λ k p s. search rules) (λ k i not. tail_below m.rooted k (λ x h. absurd (x h)) not))

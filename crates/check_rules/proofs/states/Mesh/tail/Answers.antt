@@ -1,5 +1,5 @@
-use Rattle.check_rules.proofs.HalfLaws.{has-partner}
+use Rattle.mesh.proofs.PartnerLaws.{partner-lt}
 use Rattle.check_rules.proofs.states.Mesh.tail.Goals as goal
 
-pub tail-requires : goal.tail-requires
-tail-requires c = has-partner c.args.self.now.edges.now c.args.self.now.ne c.args.h c.args.self.now.halfedges.room c.requires
+pub head-requires : goal.head-requires
+head-requires c = rw c.partner.ensures (partner-lt c.args.h c.args.self.now.ne c.requires)
