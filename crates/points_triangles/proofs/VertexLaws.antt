@@ -32,19 +32,18 @@ use Rattle.points_weights.specs.Tables.{no_row, table, found}
 use Rattle.points_weights.proofs.TableLaws.{table-row}
 use Rattle.points_catmull.specs.Place.{place, made}
 use Rattle.points_triangles.specs.Passes.{reached, Smoothed}
-use Rattle.points_triangles.specs.Vertices.{tail_point, weighed, unless_heavy, moved_inner, heavy, vertex_of, moved_vertex}
+use Rattle.points_triangles.specs.declared.inner.Moved.{Moved}
+use Rattle.points_triangles.specs.declared.inner.Moved.TheVariants.{To, By}
+use Rattle.points_triangles.specs.Vertices.{tail_point, weighed, unless_heavy, inner_move, heavy, vertex_of, vertex_move, moved_vertex}
 
 -- ---- which row
-pub found-row : (n i : ℕ) → found n ≡ Some i → (ltb n 64 ≡ true) × (i ≡ n)
+found-row : (n i : ℕ) → found n ≡ Some i → (ltb n 64 ≡ true) × (i ≡ n)
 unfolding found
 found-row n i e = go (ltb n 64) refl
   where
     go : (b : Bool) → ltb n 64 ≡ b → (ltb n 64 ≡ true) × (i ≡ n)
     go true t = let q : Some n ≡ Some i = rw t at e in (t, cc)
     go false t = let q : None ≡ Some i = rw t at e in cc
-
-pub row-lt : (n i : ℕ) → found n ≡ Some i → i < 64
-row-lt n i e = let f = found-row n i e in let l = ltb-true n 64 f.0 in omega arith
 
 found_none : (n : ℕ) → found n ≡ None → ltb n 64 ≡ false
 unfolding found
@@ -55,45 +54,43 @@ found_none n e = go (ltb n 64) refl
     go false t = t
 
 -- ---- an interior vertex
-module _ (rows : List Weights) (es : List ℕ) (n : ℕ) (ps : List Float) (h : ℕ) (p : Point) {s : Sum} (e : s ≡ summed zero_p (map (head_point es ps) (turns_at es n h))) where
+module _ (es : List ℕ) (n : ℕ) (ps : List Float) (h : ℕ) (p : Point) {s : Sum} (e : s ≡ summed zero_p (map (head_point es ps) (turns_at es n h))) where
   count-is : s.count ≡ length (turns_at es n h)
   unfolding summed
   count-is = ap (λ (t : Sum). t.count) e ∙ length-map (turns_at es n h) (head_point es ps)
 
-  pub inner-row : {i : ℕ} {w : Weights} {q : Point} → found s.count ≡ Some i → w ≡ get_or rows i no_row → q ≡ weighted s.total p w.first w.second →
-      Some q ≡ moved_inner rows es n ps h p
-  unfolding moved_inner unless_heavy weighed summed
-  inner-row {i} r hw hq =
+  pub inner-row : {i : ℕ} → found s.count ≡ Some i → Some (By i s.total p) ≡ inner_move es n ps h p
+  unfolding inner_move unless_heavy summed
+  inner-row {i} r =
       let f = found-row s.count i r in
       let l : ltb (length (turns_at es n h)) 64 ≡ true = rw count-is at f.0 in
       let t : s.total ≡ plus zero_p (map (head_point es ps) (turns_at es n h)) = ap (λ (t : Sum). t.total) e in
-      let k : i ≡ length (turns_at es n h) = f.1 ∙ count-is in
-      rw (l, hq, hw, t, k)
+      rw (l, t, f.1 ∙ count-is)
 
-  pub inner-none : found s.count ≡ None → None ≡ moved_inner rows es n ps h p
-  unfolding moved_inner unless_heavy
+  pub inner-none : found s.count ≡ None → None ≡ inner_move es n ps h p
+  unfolding inner_move unless_heavy
   inner-none r =
       let l : ltb (length (turns_at es n h)) 64 ≡ false = rw count-is at (found_none s.count r) in
       rw l
 
 -- ---- a vertex
-module _ (rows : List Weights) (rim : Point → Point → Point → Point) (c : Counts) (outs es : List ℕ) (ps : List Float) (v : ℕ) {p : Point} (hp : p ≡ point_at ps v) where
-  pub moved-alone : link_at outs v ≡ NONE → Some p ≡ moved_vertex rows rim (mesh_of c outs es []) ps v
-  unfolding moved_vertex vertex_of unless_heavy heavy on_rim
-  moved-alone o = rw (eq-eqb (link_at outs v) NONE o, hp)
+module _ (rim : Point → Point → Point → Point) (c : Counts) (outs es : List ℕ) (ps : List Float) (v : ℕ) {p : Point} (hp : p ≡ point_at ps v) where
+  pub move-alone : link_at outs v ≡ NONE → Some (To p) ≡ vertex_move rim (mesh_of c outs es []) ps v
+  unfolding vertex_move unless_heavy heavy on_rim
+  move-alone o = rw (eq-eqb (link_at outs v) NONE o, hp)
 
   module _ (h : ℕ) (o : h ≡ link_at outs v) (ne : h ≢ NONE) where
-    pub moved-rim : {q : Point} → rim_at es h ≡ true → q ≡ rim p (head_point es ps h) (tail_point es ps (prev_at es h)) →
-        Some q ≡ moved_vertex rows rim (mesh_of c outs es []) ps v
-    unfolding moved_vertex vertex_of unless_heavy heavy on_rim
-    moved-rim r d =
+    pub move-rim : {q : Point} → rim_at es h ≡ true → q ≡ rim p (head_point es ps h) (tail_point es ps (prev_at es h)) →
+        Some (To q) ≡ vertex_move rim (mesh_of c outs es []) ps v
+    unfolding vertex_move unless_heavy heavy on_rim
+    move-rim r d =
         let no : eqb (link_at outs v) NONE ≡ false = ne_eqb (link_at outs v) NONE (λ z. ne (o ∙ z)) in
         let rm : rim_at es (link_at outs v) ≡ true = rw o at r in
         rw (no, rm, d, o, hp)
 
-    pub moved-inner : {q : Option Point} → rim_at es h ≡ false → q ≡ moved_inner rows es c.e ps h p → q ≡ moved_vertex rows rim (mesh_of c outs es []) ps v
-    unfolding moved_vertex vertex_of heavy moved_inner around heads
-    moved-inner r d =
+    pub move-inner : {q : Option Moved} → rim_at es h ≡ false → q ≡ inner_move es c.e ps h p → q ≡ vertex_move rim (mesh_of c outs es []) ps v
+    unfolding vertex_move heavy inner_move around heads
+    move-inner r d =
         let no : eqb (link_at outs v) NONE ≡ false = ne_eqb (link_at outs v) NONE (λ z. ne (o ∙ z)) in
         let rm : rim_at es (link_at outs v) ≡ false = rw o at r in
         d ∙ rw (no, rm, o, hp)
@@ -107,16 +104,61 @@ not-heavy m v r h = not-false' (ltb (length (around m v)) 64) (rw r at h)
     not-false' true e = refl
     not-false' false e = absurd (let y : ◌≡◌ {A = ℕ} 0 1 = cc in omega arith)
 
--- ---- where it goes, or that it does not
-unless_none : (b : Bool) (p : Point) → None ≡ unless_heavy b p → b ≡ true
+-- ---- how it goes, or that it does not
+unless_none : {A : Type 0} (b : Bool) (x : A) → None ≡ unless_heavy b x → b ≡ true
 unfolding unless_heavy
-unless_none true p e = refl
-unless_none false p e = cc
+unless_none true x e = refl
+unless_none false x e = cc
 
-unless-some : (b : Bool) (p q : Point) → Some q ≡ unless_heavy b p → (b ≡ false) × (q ≡ p)
+unless-some : {A : Type 0} (b : Bool) (x y : A) → Some y ≡ unless_heavy b x → (b ≡ false) × (y ≡ x)
 unfolding unless_heavy
-unless-some true p q e = cc
-unless-some false p q e = (refl, cc)
+unless-some true x y e = cc
+unless-some false x y e = (refl, cc)
+
+-- how it goes, weighed by rows, is where it goes
+module _ (rim : Point → Point → Point → Point) (m : Links) (ps : List Float) (v : ℕ) {r : Option Moved} (e : r ≡ vertex_move rim m ps v) where
+  pub point-none : (rows : List Weights) → r ≡ None → None ≡ moved_vertex rows rim m ps v
+  unfolding vertex_move moved_vertex unless_heavy
+  point-none rows t = let h = unless_none (heavy m v) _ (sym t ∙ e) in rw h
+
+  some-is : {x : Moved} → r ≡ Some x → (heavy m v ≡ false) × (x ≡ if (rim_vertex m v) (To (on_rim rim m ps v)) (By (length (around m v)) (heads m ps (around m v)) (point_at ps v)))
+  unfolding vertex_move
+  some-is t = unless-some (heavy m v) _ _ (sym t ∙ e)
+
+  pub point-to : (rows : List Weights) {p : Point} → r ≡ Some (To p) → Some p ≡ moved_vertex rows rim m ps v
+  unfolding moved_vertex vertex_of unless_heavy
+  point-to rows {p} t = go (rim_vertex m v) refl
+    where
+      go : (b : Bool) → rim_vertex m v ≡ b → Some p ≡ moved_vertex rows rim m ps v
+      go true k =
+          let q : To p ≡ To (on_rim rim m ps v) = rw k at (some-is t).1 in
+          let o : p ≡ on_rim rim m ps v = cc in
+          rw ((some-is t).0, k, o)
+      go false k = let q : To p ≡ By (length (around m v)) (heads m ps (around m v)) (point_at ps v) = rw k at (some-is t).1 in cc
+
+  module _ {i : ℕ} {ns p : Point} (t : r ≡ Some (By i ns p)) where
+    by-is : (rim_vertex m v ≡ false) × (By i ns p ≡ By (length (around m v)) (heads m ps (around m v)) (point_at ps v))
+    by-is = go (rim_vertex m v) refl
+      where
+        go : (b : Bool) → rim_vertex m v ≡ b → (rim_vertex m v ≡ false) × (By i ns p ≡ By (length (around m v)) (heads m ps (around m v)) (point_at ps v))
+        go true k = let q : By i ns p ≡ To (on_rim rim m ps v) = rw k at (some-is t).1 in cc
+        go false k = (k, rw k at (some-is t).1)
+
+    pub by_row : i < 64
+    by_row =
+        let q = by-is.1 in
+        let n : i ≡ length (around m v) = cc in
+        let l = ltb-true (length (around m v)) 64 (not-heavy m v by-is.0 (some-is t).0) in
+        omega arith
+
+    pub point-by : (rows : List Weights) {w : Weights} {x : Point} → w ≡ get_or rows i no_row → x ≡ weighted ns p w.first w.second → Some x ≡ moved_vertex rows rim m ps v
+    unfolding moved_vertex vertex_of weighed unless_heavy
+    point-by rows hw hx =
+        let q = by-is.1 in
+        let n : i ≡ length (around m v) = cc in
+        let s : ns ≡ heads m ps (around m v) = cc in
+        let o : p ≡ point_at ps v = cc in
+        rw ((some-is t).0, by-is.0, hx, hw, n, s, o)
 
 module _ (rows : List Weights) (rim : Point → Point → Point → Point) (m : Links) (ps : List Float) (v : ℕ) where
   pub moved_none : None ≡ moved_vertex rows rim m ps v → heavy m v ≡ true

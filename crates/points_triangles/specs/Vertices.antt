@@ -12,6 +12,8 @@ use Rattle.mesh.specs.Words.{tail_at}
 use Rattle.mesh.specs.Rounds.{turns_at}
 use Rattle.points_catmull.specs.Sums.{head_point}
 use Rattle.points_weights.specs.Tables.{no_row}
+use Rattle.points_triangles.specs.declared.inner.Moved.{Moved}
+use Rattle.points_triangles.specs.declared.inner.Moved.TheVariants.{To, By}
 
 -- the point that h comes from
 abbrev pub tail_point : List ℕ → List Float → ℕ → Point
@@ -25,20 +27,27 @@ stay p a b = p
 unfoldable pub weighed : List Weights → Point → Point → ℕ → Point
 weighed rows ns p n = let w = get_or rows n no_row in weighted ns p w.first w.second
 
--- no weights, or where it moves
-unfoldable pub unless_heavy : Bool → Point → Option Point
-unless_heavy heavy p = if heavy None (Some p)
+-- no weights, or how it moves
+unfoldable pub unless_heavy : {A : Type 0} → Bool → A → Option A
+unless_heavy heavy x = if heavy None (Some x)
 
-unfoldable pub moved_inner : List Weights → List ℕ → ℕ → List Float → ℕ → Point → Option Point
-moved_inner rows es n ps h p =
+-- how the interior vertex p goes that h leaves
+unfoldable pub inner_move : List ℕ → ℕ → List Float → ℕ → Point → Option Moved
+inner_move es n ps h p =
     let hs = turns_at es n h in
-    unless_heavy (not (ltb (length hs) 64)) (weighed rows (plus zero_p (map (head_point es ps) hs)) p (length hs))
+    unless_heavy (not (ltb (length hs) 64)) (By (length hs) (plus zero_p (map (head_point es ps) hs)) p)
 
 -- §4, answer 6: an interior vertex of valence 64 or more
 unfoldable pub heavy : Links → ℕ → Bool
 heavy m v = not (rim_vertex m v) && not (ltb (length (around m v)) 64)
 
--- where vertex v goes, by these weights and this rule for the rim
+-- how vertex v goes, by this rule for the rim: in the interior by the row for its valence, its neighbours' sum and its own point
+unfoldable pub vertex_move : (Point → Point → Point → Point) → Links → List Float → ℕ → Option Moved
+vertex_move rim m ps v =
+    let hs = around m v in
+    unless_heavy (heavy m v) (if (rim_vertex m v) (To (on_rim rim m ps v)) (By (length hs) (heads m ps hs) (point_at ps v)))
+
+-- where it goes, by these weights
 unfoldable pub vertex_of : List Weights → (Point → Point → Point → Point) → Links → List Float → ℕ → Point
 vertex_of rows rim m ps v =
     let hs = around m v in

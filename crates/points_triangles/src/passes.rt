@@ -8,7 +8,7 @@ ghost use Rattle.points_triangles.specs.Passes.{Smoothed, loop_wants, loop_left,
 
 use crate::edges::put_edges;
 use crate::faces::put_answers;
-use crate::scheme::{Loop, Sqrt3};
+use crate::scheme::{Loop, Scheme, Sqrt3};
 use crate::vertices::{put_kept, put_vertices};
 use points_catmull::cage::{Cage, Faces, Vertices};
 use scope::records::Counts;
@@ -30,7 +30,7 @@ pub fn loop_points<'a>(
 {
     let cage = Cage { edges, points, c };
     if update {
-        put_vertices::<Loop>(&Vertices { cage, outs }, work)?;
+        put_vertices::<Loop>(&Vertices { cage, outs }, &Loop::table(), work)?;
     } else {
         put_kept(points, c, work);
     }
@@ -57,10 +57,12 @@ pub fn sqrt_points<'a>(
 {
     let cage = Cage { edges, points, c };
     let vertices = Vertices { cage, outs };
+    // The rows are the same where the rim stays.
+    let rows = Sqrt3::<true>::table();
     if flag {
-        put_vertices::<Sqrt3<true>>(&vertices, work)?;
+        put_vertices::<Sqrt3<true>>(&vertices, &rows, work)?;
     } else {
-        put_vertices::<Sqrt3<false>>(&vertices, work)?;
+        put_vertices::<Sqrt3<false>>(&vertices, &rows, work)?;
     }
     let faces = Faces {
         cage,

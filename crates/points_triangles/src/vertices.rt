@@ -12,16 +12,19 @@ use crate::inner::vertex_point;
 use crate::scheme::Scheme;
 use mesh::rows::{load_point, store_point};
 use points_catmull::cage::Vertices;
-use scope::records::Counts;
+use scope::records::{Counts, Weights};
 
-// The vertices in order; or those up to the first whose valence has no weights, and its number.
-pub fn put_vertices<S: Scheme>(vertices: &Vertices, work: &mut [f64]) -> Result<(), u32>
+// The vertices in order, weighed by rows; or those up to the first whose valence has no weights, and its number.
+pub fn put_vertices<S: Scheme>(
+    vertices: &Vertices,
+    rows: &[Weights; 64],
+    work: &mut [f64],
+) -> Result<(), u32>
     requires { 3 * vertices.now.cage.c.v ≤ length work.old }
-    ensures { Smoothed (crowded (vertices_in vertices.now)) result work.new (place 0 (made (vertex_of S.rows S.rim (vertices_in vertices.now) vertices.now.cage.points.now) (reached (crowded (vertices_in vertices.now)) vertices.now.cage.c.v)) work.old) }
+    ensures { Smoothed (crowded (vertices_in vertices.now)) result work.new (place 0 (made (vertex_of rows.now S.rim (vertices_in vertices.now) vertices.now.cage.points.now) (reached (crowded (vertices_in vertices.now)) vertices.now.cage.c.v)) work.old) }
 {
-    let rows = S::table();
     for v in 0..vertices.cage.c.v as u32 {
-        match vertex_point::<S>(vertices, &rows, v) {
+        match vertex_point::<S>(vertices, rows, v) {
             Some(p) => store_point(work, v, p),
             None => return Err(v),
         }

@@ -9,7 +9,7 @@ loop-v-init g c = record { content = made_none _ _ _; light = lowest-zero _ }
 
 pub returns-in-None : goal.returns-in-None
 returns-in-None g c = let i = c.loop-v.invariant in
-    rw c.table-rows.ensures at (put_some _ _ _ (omega arith) i.light (moved_none _ _ _ _ _ (sym c.in-None.is ∙ c.vertex_point.ensures)) i.content)
+    put_some _ _ _ (omega arith) i.light (moved_none _ _ _ _ _ (sym c.in-None.is ∙ c.vertex_point.ensures)) i.content
 
 pub loop-v-preserved : goal.loop-v-preserved
 loop-v-preserved g c = let i = c.loop-v.invariant in
@@ -17,4 +17,4 @@ loop-v-preserved g c = let i = c.loop-v.invariant in
     record { content = n.1; light = n.2 }
 
 pub returns : goal.returns
-returns g c = rw c.table-rows.ensures at (put_all _ _ _ (omega arith) c.loop-v.invariant.light c.loop-v.invariant.content)
+returns g c = put_all _ _ _ (omega arith) c.loop-v.invariant.light c.loop-v.invariant.content
