@@ -63,7 +63,18 @@ pub fn subdivide(
     look(passes, g)?;
     let first = settle(kind, flag);
     let used = &g.slices.edges[..8 * g.counts.e];
-    if !enough(kind, passes, first, used, g.counts, room) {
+    // What is lent, to look at.
+    let shared: &Buffers<'_> = room;
+    if !enough(
+        kind,
+        passes,
+        first,
+        used,
+        g.counts,
+        shared.slices(),
+        shared.points,
+        shared.work,
+    ) {
         wipe(room);
         return Err(Refusal::NoRoom);
     }

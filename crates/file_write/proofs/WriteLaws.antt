@@ -1,5 +1,5 @@
 -- The answers of a writer, and what it leaves. Assumes nothing.
-use Prim.Native.Nat.{ℕ, ◌+◌, ◌*◌, ◌≤◌, ◌<◌}
+use Prim.Native.Nat.{ℕ, ◌*◌, ◌≤◌, ◌<◌}
 use mathlib.Core.Path.{◌≡◌, refl, sym, ap, ◌∙◌, subst}
 use Rattle.std.proofs.lemmas.List.{get_or_default}
 use mathlib.Core.Bool.{Bool, true, false, not, ◌&&◌}
@@ -149,9 +149,13 @@ pub leaves_old : (o : Option Refusal) (c : Counts) (s : Slices) (ps : List Float
 unfolding write_leaves
 leaves_old o c s ps old e = rw e
 
--- ---- the whole file, part after part: how long each part is
-pub record Parts (c : Counts) (s : Slices) (ps : List Float) (l : List ℕ) : Type 0 where
-  pub contents : length (words_bytes l) ≡ 64
+-- ---- the contents
+pub length-contents : (c : Counts) → length (words_bytes (contents_of c)) ≡ 64
+unfolding contents_of
+length-contents c = length-words (contents_of c)
+
+-- ---- the whole file, part after part: how long each part after the contents is
+pub record Parts (c : Counts) (s : Slices) (ps : List Float) : Type 0 where
   pub points : length (points_bytes (take (3 * c.v) ps)) ≡ 24 * c.v
   pub outs : length (words_bytes (take c.v s.outs)) ≡ 4 * c.v
   pub edges : length (words_bytes (take (8 * c.e) s.edges)) ≡ 32 * c.e
@@ -160,13 +164,8 @@ pub record Parts (c : Counts) (s : Slices) (ps : List Float) (l : List ℕ) : Ty
   pub emarks : length (marks_bytes (take c.e s.emarks)) ≡ c.e
   pub fmarks : length (marks_bytes (take c.f s.fmarks)) ≡ c.f
 
-length-contents : (c : Counts) → length (words_bytes (contents_of c)) ≡ 64
-unfolding contents_of
-length-contents c = length-words (contents_of c)
-
-pub parts : (c : Counts) (s : Slices) (ps : List Float) (b l : List ℕ) → Room c s ps b → l ≡ contents_of c → Parts c s ps l
-parts c s ps b l r e = record {
-  contents = ap (λ (k : List ℕ). length (words_bytes k)) e ∙ length-contents c;
+pub parts : (c : Counts) (s : Slices) (ps : List Float) (b : List ℕ) → Room c s ps b → Parts c s ps
+parts c s ps b r = record {
   points = let n = length-numbers (take (3 * c.v) ps) in let m = length-take-le (3 * c.v) ps r.points in omega arith;
   outs = let n = length-words (take c.v s.outs) in let m = length-take-le c.v s.outs r.outs in omega arith;
   edges = let n = length-words (take (8 * c.e) s.edges) in let m = length-take-le (8 * c.e) s.edges r.edges in omega arith;
@@ -202,8 +201,8 @@ body c s ps =
     ++ words_bytes (take c.v s.outs) ++ words_bytes (take (8 * c.e) s.edges) ++ words_bytes (take c.f s.faces)
     ++ marks_bytes (take c.v s.vmarks) ++ marks_bytes (take c.e s.emarks) ++ marks_bytes (take c.f s.fmarks)
 
-pub first-part : (c : Counts) (b : List ℕ) {l : List ℕ} {p : ℕ} {f : List ℕ} → l ≡ contents_of c → f ≡ over_from 0 (words_bytes l) b → p ≡ 0 + length (words_bytes l) → Written 0 b (words_bytes (contents_of c)) p f
-first-part c b e t q = rw (sym e) (record { text = t; place = q })
+pub first-part : (c : Counts) (b : List ℕ) {p : ℕ} {f : List ℕ} → f ≡ over_from 0 (words_bytes (contents_of c)) b → p ≡ 64 → Written 0 b (words_bytes (contents_of c)) p f
+first-part c b t q = let n = length-contents c in record { text = t; place = omega arith }
 
 pub whole-file : (c : Counts) (s : Slices) (ps : List Float) (b : List ℕ) {p : ℕ} {f : List ℕ} → Written 0 b (body c s ps) p f → f ≡ over (file_of c s ps) b
 unfolding file_of used points_of

@@ -4,7 +4,8 @@ ghost use Rattle.std.specs.Prelude.{◌≡◌, ◌≤◌, ◌*◌, length, take}
 ghost use Rattle.scope.specs.Lists.{over};
 ghost use Rattle.mesh.specs.Given.{lists};
 ghost use Rattle.check_mesh.specs.Checked.{answered};
-ghost use Rattle.file_read.specs.Format.{all_finite, contents_of, file_end, file_of, write_refusal, write_leaves};
+ghost use Rattle.file_read.specs.Format.{all_finite, words_bytes, contents_of, file_end, file_of, write_refusal, write_leaves};
+ghost use Rattle.text.specs.Text.{over_from};
 ghost use Rattle.file_write.specs.Puts.{Held, Room};
 ghost use Rattle.file_write.specs.Writes.{writing};
 
@@ -80,6 +81,16 @@ fn contents(c: Counts) -> [u32; 16]
     ]
 }
 
+// The contents, with which a file begins: the place after them.
+pub fn put_contents(file: &mut [u8], c: Counts) -> usize
+    requires held { Held c }
+    requires in_bounds { 64 ≤ length file.old }
+    ensures file_after { file.new ≡ over_from 0 (words_bytes (contents_of c)) file.old }
+    ensures place { result ≡ 64 }
+{
+    put_all(file, 0, &contents(c))
+}
+
 // The file, where there is room for it and the numbers are finite: its length.
 fn put_file(m: Given<'_>, file: &mut [u8]) -> usize
     requires { Room m.counts (lists m.slices) m.points.now file.old }
@@ -89,7 +100,7 @@ fn put_file(m: Given<'_>, file: &mut [u8]) -> usize
     let c = m.counts;
     let s = m.slices;
     // Each is the place at which that part begins.
-    let points = put_all(file, 0, &contents(c));
+    let points = put_contents(file, c);
     let outs = put_all(file, points, &m.points[..3 * c.v]);
     let edges = put_all(file, outs, &s.outs[..c.v]);
     let faces = put_all(file, edges, &s.edges[..8 * c.e]);

@@ -46,7 +46,7 @@ returns-then-not-enough-clause-outcome c = let s = c.args in
     let b = lent s.room.now in
     let k = seen-clear S s.passes s.flag g b c.look.ensures c.in_ok-look.was in
     let f = c.settle-first.ensures (links_in g) in
-    let e = room-judged k _ f c.enough.ensures in ap (outcome_at (Err NoRoom)) c.wipe.ensures.after ∙ ends-full k e c.if-not-enough.true
+    let e = room-judged k _ f (rw c.slices.ensures at c.enough.ensures) in ap (outcome_at (Err NoRoom)) c.wipe.ensures.after ∙ ends-full k e c.if-not-enough.true
 
 pub copy_mesh-requires : goal.copy_mesh-requires
 copy_mesh-requires c = let s = c.args in
@@ -55,7 +55,7 @@ copy_mesh-requires c = let s = c.args in
     let b = lent s.room.now in
     let k = seen-clear S s.passes s.flag g b c.look.ensures c.in_ok-look.was in
     let f = c.settle-first.ensures (links_in g) in
-    let e = room-judged k _ f c.enough.ensures in record { points_value = unfold links_of counts_of in k.past.sized; newpoints_value = fits-zero k (sym e ∙ c.if-not-enough.false) c.if-passes-eq0.true }
+    let e = room-judged k _ f (rw c.slices.ensures at c.enough.ensures) in record { points_value = unfold links_of counts_of in k.past.sized; newpoints_value = fits-zero k (sym e ∙ c.if-not-enough.false) c.if-passes-eq0.true }
 
 pub returns-then-passes-eq0-clause-outcome : goal.returns-then-passes-eq0-clause-outcome
 returns-then-passes-eq0-clause-outcome c = let s = c.args in
@@ -64,7 +64,7 @@ returns-then-passes-eq0-clause-outcome c = let s = c.args in
     let b = lent s.room.now in
     let k = seen-clear S s.passes s.flag g b c.look.ensures c.in_ok-look.was in
     let f = c.settle-first.ensures (links_in g) in
-    let e = room-judged k _ f c.enough.ensures in ap (outcome_at (Ok (s.g.counts, s.flag))) c.copy_mesh.ensures.after ∙ ends-copied k (sym e ∙ c.if-not-enough.false) c.if-passes-eq0.true
+    let e = room-judged k _ f (rw c.slices.ensures at c.enough.ensures) in ap (outcome_at (Ok (s.g.counts, s.flag))) c.copy_mesh.ensures.after ∙ ends-copied k (sym e ∙ c.if-not-enough.false) c.if-passes-eq0.true
 
 pub go-requires : goal.go-requires
 go-requires c = let s = c.args in
@@ -73,7 +73,7 @@ go-requires c = let s = c.args in
     let b = lent s.room.now in
     let k = seen-clear S s.passes s.flag g b c.look.ensures c.in_ok-look.was in
     let f = c.settle-first.ensures (links_in g) in
-    let e = room-judged k _ f c.enough.ensures in ends-ready S (sides_of s.kind) (laws-of s.kind) s.flag g b c.if-passes-eq0.false k (sym e ∙ c.if-not-enough.false) f
+    let e = room-judged k _ f (rw c.slices.ensures at c.enough.ensures) in ends-ready S (sides_of s.kind) (laws-of s.kind) s.flag g b c.if-passes-eq0.false k (sym e ∙ c.if-not-enough.false) f
 
 pub returns-in_err-look-clause-outcome : goal.returns-in_err-look-clause-outcome
 returns-in_err-look-clause-outcome c = let s = c.args in
@@ -90,4 +90,4 @@ returns-clause-outcome c = let s = c.args in
     let b = lent s.room.now in
     let k = seen-clear S s.passes s.flag g b c.look.ensures c.in_ok-look.was in
     let f = c.settle-first.ensures (links_in g) in
-    let e = room-judged k _ f c.enough.ensures in c.go.ensures.outcome ∙ ends-gone S (sides_of s.kind) (laws-of s.kind) s.flag g b c.if-passes-eq0.false k (sym e ∙ c.if-not-enough.false) f
+    let e = room-judged k _ f (rw c.slices.ensures at c.enough.ensures) in c.go.ensures.outcome ∙ ends-gone S (sides_of s.kind) (laws-of s.kind) s.flag g b c.if-passes-eq0.false k (sym e ∙ c.if-not-enough.false) f
