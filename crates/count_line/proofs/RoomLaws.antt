@@ -1,6 +1,6 @@
 -- Slices of these sizes have room for any file that the counter takes. Assumes nothing.
 use Prim.Native.Nat.{ℕ, ◌*◌, ◌≤◌}
-use mathlib.Core.Path.{◌≡◌, refl, ap}
+use mathlib.Core.Path.{◌≡◌, refl, sym, ap}
 use mathlib.Core.Bool.{Bool, true, false, not}
 use mathlib.Core.List.{List}
 use Rattle.std.specs.Prelude.{Option, None, Some}
@@ -56,6 +56,14 @@ line-alone b = go (ltb 65536 (length b)) (right b) refl refl
         (ap (λ (o : Option Refusal). saying o (counted (links_of (file_counts b) (file_slices b)))) (or_assoc (refuse_if (not (all_finite (file_points b))) NotFinite) (link_refusal b) (deleted_in (file_counts b) (file_slices b))))
 
 -- nor on what fills them
-pub in-the-room : (b : List ℕ) → counter_says b (sizes (slices_at (replicate 2304 0) (replicate 16384 0) (replicate 13312 0) (replicate 13312 0) (replicate 13312 0) (replicate 13312 0))) (length (replicate 6912 float_zero)) ≡ counter_line b
+pub in-the-room : (b os es fs vm em fm : List ℕ) (ps : List Float)
+    → 2304 ≡ length os → 16384 ≡ length es → 13312 ≡ length fs → 13312 ≡ length vm → 13312 ≡ length em → 13312 ≡ length fm → 6912 ≡ length ps
+    → counter_says b (sizes (slices_at os es fs vm em fm)) (length ps) ≡ counter_line b
 unfolding sizes
-in-the-room b = rw (length-replicate {0} {A = ℕ} 2304 0, length-replicate {0} {A = ℕ} 16384 0, length-replicate {0} {A = ℕ} 13312 0, length-replicate {0} {A = Float} 6912 float_zero) (line-alone b)
+in-the-room b os es fs vm em fm ps o e f v m g p = rw (← o, ← e, ← f, ← v, ← m, ← g, ← p) (line-alone b)
+
+-- zeros, for one
+pub in-zeros : (b : List ℕ) → counter_says b (sizes (slices_at (replicate 2304 0) (replicate 16384 0) (replicate 13312 0) (replicate 13312 0) (replicate 13312 0) (replicate 13312 0))) (length (replicate 6912 float_zero)) ≡ counter_line b
+in-zeros b =
+    let z : (n : ℕ) → n ≡ length (replicate n 0) = λ n. sym (length-replicate {0} {A = ℕ} n 0) in
+    in-the-room b _ _ _ _ _ _ (replicate 6912 float_zero) (z 2304) (z 16384) (z 13312) (z 13312) (z 13312) (z 13312) (sym (length-replicate {0} {A = Float} 6912 float_zero))

@@ -1,6 +1,6 @@
 -- One face opened as the code does it, one face more, and one swap more. Assumes nothing.
 use Prim.Native.Nat.{ℕ, suc, ◌+◌, ◌-◌, ◌*◌, ◌≤◌, ◌<◌}
-use mathlib.Core.Path.{◌≡◌, sym, ap, ◌∙◌, subst⁻¹}
+use mathlib.Core.Path.{◌≡◌, sym, ap, ◌∙◌, subst, subst⁻¹}
 use mathlib.Core.Bool.{Bool}
 use mathlib.Core.List.{List, [], ◌∷◌}
 use Rattle.std.specs.Prelude.{Option, None, Some}
@@ -167,6 +167,9 @@ module _ {flag : Bool} {f : ℕ} {m : Links} (k : FaceOk flag f m) where
     rim-opens = sym (ap (λ (o : Option ℕ). elim o [ None ↦ centre_face f m | Some h ↦ rim_face h m ]) q)
 
   module _ (q : side_by flag f m ≡ None) where
+    pub centre-there : CentreOk f m
+    centre-there = subst (λ (o : Option ℕ). OpenOk o f m) q k.open_ok
+
     pub centre-opens : centre_face f m ≡ sqrt_face flag f m
     unfolding sqrt_face
     centre-opens = sym (ap (λ (o : Option ℕ). elim o [ None ↦ centre_face f m | Some h ↦ rim_face h m ]) q)
