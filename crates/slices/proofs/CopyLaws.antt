@@ -3,19 +3,27 @@ use Prim.Native.Nat.{ℕ, zero, suc, ◌+◌, ◌-◌, ◌≤◌, ◌<◌}
 use mathlib.Core.Path.{◌≡◌, refl, ap, ◌∙◌}
 use mathlib.Core.List.{List, [], ◌∷◌, ◌++◌}
 use native.Mathlib.Omega.{arith}
-use lib.ListN.{length, set, take, drop, replicate}
+use lib.ListN.{length, get_or, set, take, drop, replicate}
 use borrow.Rule.Slice.PartMut.{put_mid}
 use Rattle.std.proofs.lemmas.List.{length-drop, length-take-le, drop_all, append-nil, length-replicate}
 use Rattle.scope.specs.Lists.{lay, over}
+use Rattle.mesh.proofs.SliceLaws.{length_over}
 
--- l, then what was there behind it
-pub over-start : {A : Type 0} (l dst : List A) (n : ℕ) → length l ≡ n → n ≤ length dst → l ++ drop n dst ≡ over l dst
+-- the first i are copied, and one more
+copy-next : {A : Type 0} (src dst : List A) (i : ℕ) (d : A) → i < length src → i < length dst →
+    set (over (take i src) dst) i (get_or src i d) ≡ over (take (suc i) src) dst
 unfolding over
-over-start [] dst zero e b = refl
-over-start [] dst (suc n) e b = absurd (omega arith)
-over-start (x ∷ l) dst zero e b = absurd (omega arith)
-over-start (x ∷ l) [] (suc n) e b = absurd (omega arith)
-over-start {A} (x ∷ l) (y ∷ dst) (suc n) e b = ap {B = List A} (λ r. x ∷ r) (over-start l dst n (omega arith) (omega arith))
+copy-next [] dst i d a b = absurd (omega arith)
+copy-next (x ∷ src) [] i d a b = absurd (omega arith)
+copy-next (x ∷ src) (y ∷ dst) zero d a b = refl
+copy-next {A} (x ∷ src) (y ∷ dst) (suc i) d a b = ap {B = List A} (λ r. x ∷ r) (copy-next src dst i d (omega arith) (omega arith))
+
+pub copy-on : {A : Type 0} (src old dst : List A) (i : ℕ) (d : A) → dst ≡ over (take i src) old → i < length src → i < length dst →
+    set dst i (get_or src i d) ≡ over (take (i + 1) src) old
+copy-on src old dst i d c a b =
+    let n : i + 1 ≡ suc i = omega arith in
+    let l : length dst ≡ length old = rw c (length_over (take i src) old) in
+    rw (c, n) (copy-next src old i d a (omega arith))
 
 -- one more place of l is z
 z-next : {A : Type 0} (z : A) (l : List A) (i : ℕ) → i < length l → set (replicate i z ++ drop i l) i z ≡ replicate (suc i) z ++ drop (suc i) l

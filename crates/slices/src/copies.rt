@@ -3,13 +3,15 @@
 ghost use Rattle.std.specs.Prelude.{◌≡◌, length, take, ◌≤◌};
 ghost use Rattle.scope.specs.Lists.{lay, over};
 
-// The first n of src, over those of dst.
+// The first n of src, over those of dst. A loop: `copy_from_slice` is a call of memmove, which the library for C would ask of whoever links it.
 pub fn copy<T: Copy>(src: &[T], dst: &mut [T], n: usize)
     requires n_in_bounds { n ≤ length src.now }
     requires n_in_bounds_2 { n ≤ length dst.old }
     ensures { dst.new ≡ over (take n src.now) dst.old }
 {
-    dst[..n].copy_from_slice(&src[..n]);
+    for i in 0..n {
+        dst[i] = src[i];
+    }
 }
 
 // The value z from n on. A loop: `fill` takes clones, and of a type that is only `Copy` nothing says that a clone is the value.
