@@ -58,7 +58,9 @@ fn tell<E: Print>(err: &E, task: Task, w: Written) -> io::Result<()> {
     err.write_all(&line[..n])
 }
 
-// A file longer than the buffer is refused before it is looked at, as the counter does.
+// A file longer than the buffer is refused before it is looked at, as the counter does. Never a part of `main`: only what is run takes the stack for its
+// slices, and not a word that is not understood.
+#[inline(never)]
 fn go<I: Read, O: Print, E: Print>(input: &mut I, out: &O, err: &E, task: Task) -> io::Result<()> {
     let mut file = file_bytes();
     let n = read_full(input, &mut file);

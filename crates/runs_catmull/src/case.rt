@@ -1,4 +1,4 @@
-// A case: its head, the mesh that is given, and the slices that are lent.
+// A case: its head, and the mesh that is given or lent.
 
 ghost use Rattle.std.specs.Prelude.{◌≡◌, ◌≤◌, length};
 
@@ -74,7 +74,7 @@ impl Head {
     }
 }
 
-// Room for the mesh of the largest case.
+// Room for the mesh of the largest case, or for what the call makes of it.
 #[derive(Drop)]
 pub struct Mesh {
     pub outs: [u32; 4096],
@@ -87,7 +87,7 @@ pub struct Mesh {
 }
 
 impl Mesh {
-    fn new() -> Mesh {
+    pub fn new() -> Mesh {
         Mesh {
             outs: [0; 4096],
             edges: [0; 4096],
@@ -99,17 +99,25 @@ impl Mesh {
         }
     }
 
-    // The next seven parts.
-    pub fn read<R: Read>(parts: &mut Parts<R>) -> Mesh {
-        let mut m = Mesh::new();
-        parts.lay(&mut m.outs);
-        parts.lay(&mut m.edges);
-        parts.lay(&mut m.faces);
-        parts.lay(&mut m.vmarks);
-        parts.lay(&mut m.emarks);
-        parts.lay(&mut m.fmarks);
-        parts.lay(&mut m.points);
-        m
+    // The next seven parts. They are laid into the mesh of the case before: one that is made and handed on for each case is copied on its way.
+    pub fn read<R: Read>(&mut self, parts: &mut Parts<R>) {
+        parts.lay(&mut self.outs);
+        parts.lay(&mut self.edges);
+        parts.lay(&mut self.faces);
+        parts.lay(&mut self.vmarks);
+        parts.lay(&mut self.emarks);
+        parts.lay(&mut self.fmarks);
+        parts.lay(&mut self.points);
+    }
+
+    pub fn fill_with_junk(&mut self) {
+        fill_with_junk(&mut self.outs);
+        fill_with_junk(&mut self.edges);
+        fill_with_junk(&mut self.faces);
+        fill_with_junk(&mut self.vmarks);
+        fill_with_junk(&mut self.emarks);
+        fill_with_junk(&mut self.fmarks);
+        fill_with_junk(&mut self.points);
     }
 
     // The mesh as it is handed in, in slices of these lengths.
@@ -126,28 +134,5 @@ impl Mesh {
             },
             points: &self.points[..n.points.min(2048)],
         }
-    }
-}
-
-// The eight slices that a call writes to.
-#[derive(Drop)]
-pub struct Lent {
-    pub mesh: Mesh,
-    pub work: [f64; 2048],
-}
-
-impl Lent {
-    pub fn junk() -> Lent {
-        let mut mesh = Mesh::new();
-        let mut work = [0.0; 2048];
-        fill_with_junk(&mut mesh.outs);
-        fill_with_junk(&mut mesh.edges);
-        fill_with_junk(&mut mesh.faces);
-        fill_with_junk(&mut mesh.vmarks);
-        fill_with_junk(&mut mesh.emarks);
-        fill_with_junk(&mut mesh.fmarks);
-        fill_with_junk(&mut mesh.points);
-        fill_with_junk(&mut work);
-        Lent { mesh, work }
     }
 }

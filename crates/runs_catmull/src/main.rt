@@ -20,14 +20,20 @@ mod replay;
 
 ghost use Rattle.std.specs.Prelude.{◌≡◌, ◌≤◌, IfSome};
 
-use crate::case::Head;
+use crate::case::{Head, Mesh};
 use crate::input::Parts;
 use crate::replay::replay;
 use std::io;
 use std::io::Read;
 
 // The next case, if there is one: how many differences there are.
-fn step<R: Read, P: Print>(parts: &mut Parts<R>, out: &P) -> Option<u32>
+fn step<R: Read, P: Print>(
+    parts: &mut Parts<R>,
+    out: &P,
+    mesh: &mut Mesh,
+    lent: &mut Mesh,
+    work: &mut [f64; 2048],
+) -> Option<u32>
     ensures { IfSome result (λ d. d ≤ 9) }
 {
     let mut name = [0u8; 64];
@@ -37,10 +43,11 @@ fn step<R: Read, P: Print>(parts: &mut Parts<R>, out: &P) -> Option<u32>
     }
     let mut head = [0u8; 112];
     parts.read(&mut head);
-    Some(replay(parts, out, &name[..n], &Head::new(&head)))
+    Some(replay(parts, out, &name[..n], &Head::new(&head), mesh, lent, work))
 }
 
 // Cases, and the differences in all of them.
+#[derive(Clone, Copy)]
 struct Total {
     cases: u32,
     differences: u32,
@@ -52,8 +59,11 @@ fn run<R: Read, P: Print>(parts: &mut Parts<R>, out: &P) -> Total {
         cases: 0,
         differences: 0,
     };
+    let mut mesh = Mesh::new();
+    let mut lent = Mesh::new();
+    let mut work = [0.0; 2048];
     for _ in 0..1000u32 {
-        let Some(d) = step(parts, out) else {
+        let Some(d) = step(parts, out, &mut mesh, &mut lent, &mut work) else {
             break;
         };
         total.cases += 1;
@@ -62,8 +72,15 @@ fn run<R: Read, P: Print>(parts: &mut Parts<R>, out: &P) -> Total {
     total
 }
 
+// Word by word: `println!` writes a line as a whole, so that nothing of it would come out where not all of it can.
+fn print_total<P: Print>(out: &P, t: Total) -> io::Result<()> {
+    out.print(t.cases)?;
+    out.write_all(b" cases, ")?;
+    out.print(t.differences)?;
+    out.write_all(b" differences\n")
+}
+
 fn main(rt: HostRuntime) -> io::Result<()> {
     let mut parts = Parts::new(rt.stdin());
-    let Total { cases, differences } = run(&mut parts, &rt);
-    println!(rt; "{cases} cases, {differences} differences")
+    print_total(&rt, run(&mut parts, &rt))
 }

@@ -2,7 +2,8 @@
 
 ghost use Rattle.std.specs.Prelude.{◌≡◌, ◌≤◌, length, take};
 
-use crate::case::{Head, Lent, Mesh};
+use crate::case::{Head, Mesh};
+use crate::cell::fill_with_junk;
 use crate::input::Parts;
 use crate::judge::Judge;
 use call_room::kind::Kind;
@@ -11,23 +12,37 @@ use scope::answers::{Refusal, Said};
 use scope::records::Counts;
 use std::io::Read;
 
-// The call into junk, with the given and the lent slices as long as the case says: what it answers and leaves.
-fn subdivide(head: &Head, mesh: &Mesh) -> (Result<(Counts, bool), Refusal>, Lent) {
+// The call into junk, with the given and the lent slices as long as the case says.
+fn subdivide(
+    head: &Head,
+    mesh: &Mesh,
+    lent: &mut Mesh,
+    work: &mut [f64; 2048],
+) -> Result<(Counts, bool), Refusal> {
     let given = mesh.given(head.counts, &head.given);
     let n = head.lent;
-    let mut lent = Lent::junk();
+    lent.fill_with_junk();
+    fill_with_junk(work);
+    let Mesh {
+        outs,
+        edges,
+        faces,
+        vmarks,
+        emarks,
+        fmarks,
+        points,
+    } = lent;
     let mut room = Buffers {
-        outs: &mut lent.mesh.outs[..n.outs.min(4096)],
-        edges: &mut lent.mesh.edges[..n.edges.min(4096)],
-        faces: &mut lent.mesh.faces[..n.faces.min(4096)],
-        vmarks: &mut lent.mesh.vmarks[..n.vmarks.min(512)],
-        emarks: &mut lent.mesh.emarks[..n.emarks.min(512)],
-        fmarks: &mut lent.mesh.fmarks[..n.fmarks.min(512)],
-        points: &mut lent.mesh.points[..n.points.min(2048)],
-        work: &mut lent.work[..head.work.min(2048)],
+        outs: &mut outs[..n.outs.min(4096)],
+        edges: &mut edges[..n.edges.min(4096)],
+        faces: &mut faces[..n.faces.min(4096)],
+        vmarks: &mut vmarks[..n.vmarks.min(512)],
+        emarks: &mut emarks[..n.emarks.min(512)],
+        fmarks: &mut fmarks[..n.fmarks.min(512)],
+        points: &mut points[..n.points.min(2048)],
+        work: &mut work[..head.work.min(2048)],
     };
-    let answer = call::subdivide(Kind::Catmull, head.passes, head.flag, given, &mut room);
-    (answer, lent)
+    call::subdivide(Kind::Catmull, head.passes, head.flag, given, &mut room)
 }
 
 // An answer as the head has it: number, three values, counts, flag.
@@ -56,34 +71,41 @@ fn judge_slices<R: Read, P: Print>(
     judge: &Judge<P>,
     parts: &mut Parts<R>,
     head: &Head,
-    lent: &Lent,
+    lent: &Mesh,
+    work: &[f64],
 ) -> u32
     ensures { result ≤ 8 }
 {
     let room = head.lent;
-    let mesh = &lent.mesh;
-    judge.slice(parts, b"outs", room.outs, &mesh.outs)
-        + judge.slice(parts, b"edges", room.edges, &mesh.edges)
-        + judge.slice(parts, b"faces", room.faces, &mesh.faces)
-        + judge.slice(parts, b"vmarks", room.vmarks, &mesh.vmarks)
-        + judge.slice(parts, b"emarks", room.emarks, &mesh.emarks)
-        + judge.slice(parts, b"fmarks", room.fmarks, &mesh.fmarks)
-        + judge.slice(parts, b"points", room.points, &mesh.points)
-        + judge.slice(parts, b"work", head.work, &lent.work)
+    judge.slice(parts, b"outs", room.outs, &lent.outs)
+        + judge.slice(parts, b"edges", room.edges, &lent.edges)
+        + judge.slice(parts, b"faces", room.faces, &lent.faces)
+        + judge.slice(parts, b"vmarks", room.vmarks, &lent.vmarks)
+        + judge.slice(parts, b"emarks", room.emarks, &lent.emarks)
+        + judge.slice(parts, b"fmarks", room.fmarks, &lent.fmarks)
+        + judge.slice(parts, b"points", room.points, &lent.points)
+        + judge.slice(parts, b"work", head.work, work)
 }
 
-// The case with this name and head, the rest of it read from the input: the number of differences.
-pub fn replay<R: Read, P: Print>(parts: &mut Parts<R>, out: &P, name: &[u8], head: &Head) -> u32
+// The case with this name and head, the rest of it read from the input: the number of differences. The mesh and what is lent are those of the case before.
+pub fn replay<R: Read, P: Print>(
+    parts: &mut Parts<R>,
+    out: &P,
+    name: &[u8],
+    head: &Head,
+    mesh: &mut Mesh,
+    lent: &mut Mesh,
+    work: &mut [f64; 2048],
+) -> u32
     ensures { result ≤ 9 }
 {
-    let mesh = Mesh::read(parts);
-    let (answer, lent) = subdivide(head, &mesh);
-    let answer = in_words(answer);
+    mesh.read(parts);
+    let answer = in_words(subdivide(head, mesh, lent, work));
     let judge = Judge {
         out,
         name,
         kept: head.is_kept(),
     };
     let place = answer.iter().zip(&head.answer).position(|(a, b)| a != b);
-    judge.report(b"answer", place) + judge_slices(&judge, parts, head, &lent)
+    judge.report(b"answer", place) + judge_slices(&judge, parts, head, lent, work)
 }

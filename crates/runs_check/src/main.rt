@@ -12,13 +12,17 @@ use scope::answers::{Refusal, Said};
 use std::io;
 use std::io::Read;
 
+// Number by number: `println!` writes a line as a whole, so that nothing of it would come out where not all of it can.
 fn print_refusal<P: Print>(out: &P, r: Refusal) -> io::Result<()> {
     let Said { number, values } = Said::from(r);
-    if number != 3 {
-        return println!(out; "{number}");
+    out.print(number)?;
+    if number == 3 {
+        for value in &values {
+            out.write_all(b" ")?;
+            out.print(*value)?;
+        }
     }
-    let [rule, kind, index] = values;
-    println!(out; "{number} {rule} {kind} {index}")
+    out.write_all(b"\n")
 }
 
 // The arrays have room for the largest recorded mesh.

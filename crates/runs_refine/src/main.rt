@@ -34,12 +34,16 @@ fn compare<R: Files>(rt: &R, path: &[u8], flag: bool) -> Result<(bool, usize), R
     Ok((two[..twice.size] == one[..second.size], twice.size))
 }
 
+// Word by word: `println!` writes a line as a whole, so that nothing of it would come out where not all of it can.
 fn say<R: Files + Print>(rt: &R, path: &[u8], flag: bool) -> io::Result<()> {
     let (same, size) = compare(rt, path, flag).unwrap_or((false, 0));
-    let asked = if flag { "update" } else { "keep" };
-    let found = if same { "the same" } else { "not the same" };
+    let asked: &[u8] = if flag { b" update: " } else { b" keep: " };
+    let found: &[u8] = if same { b"the same " } else { b"not the same " };
     rt.write_all(path)?;
-    println!(rt; " {asked}: {found} {size} bytes")
+    rt.write_all(asked)?;
+    rt.write_all(found)?;
+    rt.print(size)?;
+    rt.write_all(b" bytes\n")
 }
 
 fn both<R: Env + Files + Print>(rt: &R, i: usize) -> io::Result<()> {
