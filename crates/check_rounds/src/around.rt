@@ -12,13 +12,13 @@ ghost use Rattle.check_rules.specs.Rule.{Looped};
 ghost use Rattle.scope.specs.Links.{NONE, partner};
 
 use crate::parts::{SewnFaces, SewnHalves, SewnVertices};
-use crate::steps::BothWays;
+use crate::steps::Reversible;
 use mesh::half::{NONE, face, head, next, partner, prev};
 use mesh_walk::meets::{on_loop, on_turn};
 use mesh_walk::round::{ByNext, ByTurn, Round};
 
 // Whether a is the least halfedge of its loop or turn. It looks both ways at once, so that a loop of n halfedges, each asked, costs no more than about n log n steps.
-fn least<S: BothWays>(m: &SewnHalves, a: u32) -> bool
+fn least<S: Reversible>(m: &SewnHalves, a: u32) -> bool
     requires { Half m.now.emarks.now m.now.ne a }
     ensures { Tells result (Least (S.at m.now.edges.now) a) }
 {
@@ -27,7 +27,7 @@ fn least<S: BothWays>(m: &SewnHalves, a: u32) -> bool
         if x < a || y < a {
             return false;
         }
-        y = S::back(m.edges, y);
+        y = S::step_back(m.edges, y);
     }
     true
 }

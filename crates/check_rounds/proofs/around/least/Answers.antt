@@ -14,7 +14,7 @@ use Rattle.check_rounds.proofs.around.least.Goals.{then-x-a-via-then-x-a, then-x
 
 pub new-x-items-requires : goal.new-x-items-requires
 new-x-items-requires g c = let m = c.args.m.now in
-    perm-walk m.emarks.now (g.met.S.BothWays.undoes m.edges.now m.emarks.now m.ne m.sewn) m.fit.room c.requires
+    perm-walk m.emarks.now (g.met.S.Reversible.undoes m.edges.now m.emarks.now m.ne m.sewn) m.fit.room c.requires
 
 pub loop-x-init : goal.loop-x-init
 loop-x-init g c = let m = c.args.m.now in
@@ -24,22 +24,22 @@ loop-x-init g c = let m = c.args.m.now in
 
 pub returns-then-x-a : goal.returns-then-x-a
 returns-then-x-a g c = let m = c.args.m.now in
-    let u = g.met.S.BothWays.undoes m.edges.now m.emarks.now m.ne m.sewn in
+    let u = g.met.S.Reversible.undoes m.edges.now m.emarks.now m.ne m.sewn in
     let i = c.loop-x.invariant in
     denied (λ p. elim c.then-x-a.branch [
       | then-x-a-via-then-x-a w ↦ let q = p c.in-Some.x (round-reach u c.requires (above_first i.0 c.in-Some.ensures.steps)) in omega (arith, q, w.if-x-a.true)
       | then-x-a-via-else-x-a+then-y-a w ↦ let q = p c.loop-x.y i.2 in omega (arith, q, w.if-y-a.true)
     ])
 
-pub back-y-requires-clause-has_partner : goal.back-y-requires-clause-has_partner
-back-y-requires-clause-has_partner g c = let m = c.args.m.now in has-partner m.edges.now m.ne c.loop-x.y m.fit.room c.loop-x.invariant.1.0
+pub step_back-y-requires-clause-has_partner : goal.step_back-y-requires-clause-has_partner
+step_back-y-requires-clause-has_partner g c = let m = c.args.m.now in has-partner m.edges.now m.ne c.loop-x.y m.fit.room c.loop-x.invariant.1.0
 
 pub loop-x-preserved : goal.loop-x-preserved
 loop-x-preserved g c = let m = c.args.m.now in
-    let u = g.met.S.BothWays.undoes m.edges.now m.emarks.now m.ne m.sewn in
+    let u = g.met.S.Reversible.undoes m.edges.now m.emarks.now m.ne m.sewn in
     let (w, h, r) = c.loop-x.invariant in
-    (above-on w c.in-Some.ensures.steps (omega (arith, c.if-x-a.false)), rw c.back-y.ensures (u.back c.loop-x.y h), rw c.back-y.ensures (reach-trans r (reach-back u h)))
+    (above-on w c.in-Some.ensures.steps (omega (arith, c.if-x-a.false)), rw c.step_back-y.ensures (u.back c.loop-x.y h), rw c.step_back-y.ensures (reach-trans r (reach-back u h)))
 
 pub returns : goal.returns
 returns g c = let m = c.args.m.now in
-    told (least-round (g.met.S.BothWays.undoes m.edges.now m.emarks.now m.ne m.sewn) c.requires c.loop-x.invariant.0 c.in-None.ensures.steps.0)
+    told (least-round (g.met.S.Reversible.undoes m.edges.now m.emarks.now m.ne m.sewn) c.requires c.loop-x.invariant.0 c.in-None.ensures.steps.0)
